@@ -1,0 +1,10 @@
+-- GF(2)[x] on numbers, GF(2^l), and the definitions that the contracts cite.
+pub mod Binary
+pub mod Xor
+pub mod Clmul
+pub mod Degree
+pub mod Rem
+pub mod Product
+pub mod Decide
+pub mod Laws
+pub mod Symbols

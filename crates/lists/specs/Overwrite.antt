@@ -1,0 +1,174 @@
+-- Laws on lists for a loop that overwrites a list from the front. Assumes nothing.
+use mathlib.Core.Path.{_≡_, refl, sym, ap, _∙_}
+use mathlib.Core.List.{List, [], _∷_, _++_, append-nil, append-assoc, zipWith}
+use Prim.Native.Nat.{ℕ, zero, suc, _+_, _-_, _*_, _≤_, _<_}
+use native.Mathlib.Nat.{mul-le-mul-right, suc-mul}
+use native.Mathlib.Omega.{arith}
+use native.Mathlib.Numerals.{add-one}
+use lib.ListN.{length, take, drop, getD, set, replicate, length-append, length-take, length-drop, length-set, drop-of-length-le, List·getD-append}
+use lib.Seq.{set-append-left, getD-drop, take-at, drop-at, take-all, length-take-le}
+use borrow.Rule.Slice.PartMut.{putMid, same-len-mid}
+
+-- the first i elements of `new`, and the rest of `old`
+unfoldable pub mix : ℕ → List ℕ → List ℕ → List ℕ
+mix i new old = take i new ++ drop i old
+
+pub mix-none : (new old : List ℕ) → mix 0 new old ≡ old
+unfolding mix
+mix-none new old = refl
+
+pub mix-all : (n : ℕ) (new old : List ℕ) → length new ≡ n → length old ≡ n → mix n new old ≡ new
+unfolding mix
+mix-all zero [] [] p q = refl
+mix-all zero [] (y ∷ old) p q = absurd (omega arith)
+mix-all zero (x ∷ new) old p q = absurd (omega arith)
+mix-all (suc n) [] old p q = absurd (omega arith)
+mix-all (suc n) (x ∷ new) [] p q = absurd (omega arith)
+mix-all (suc n) (x ∷ new) (y ∷ old) p q = ap (λ (l : List ℕ). x ∷ l) (mix-all n new old (omega arith) (omega arith))
+
+pub length-mix : (i : ℕ) (new old : List ℕ) → length new ≡ length old → length (mix i new old) ≡ length old
+unfolding mix
+length-mix i new old e = simp (length-append, length-take, length-drop) (omega arith)
+
+pub mix-at : (i : ℕ) (new old : List ℕ) → i < length new → i < length old → getD (mix i new old) i 0 ≡ getD old i 0
+unfolding mix
+mix-at zero new old e h = refl
+mix-at (suc i) new [] e h = absurd (omega arith)
+mix-at (suc i) [] (y ∷ old) e h = absurd (omega arith)
+mix-at (suc i) (x ∷ new) (y ∷ old) e h = mix-at i new old (omega arith) (omega arith)
+
+set-mix-suc : (i : ℕ) (new old : List ℕ) → i < length new → i < length old → set (mix i new old) i (getD new i 0) ≡ mix (suc i) new old
+unfolding mix
+set-mix-suc i new [] e h = absurd (omega arith)
+set-mix-suc i [] (y ∷ old) e h = absurd (omega arith)
+set-mix-suc zero (x ∷ new) (y ∷ old) e h = refl
+set-mix-suc (suc i) (x ∷ new) (y ∷ old) e h = ap (λ (l : List ℕ). x ∷ l) (set-mix-suc i new old (omega arith) (omega arith))
+
+pub set-mix : (i : ℕ) (new old : List ℕ) → i < length new → i < length old → set (mix i new old) i (getD new i 0) ≡ mix (i + 1) new old
+set-mix i new old e h = rw (add-one i) (set-mix-suc i new old e h)
+
+-- the overwritten part, once `new` is used up
+pub take-mix : (i : ℕ) (new old : List ℕ) → length new ≡ i → take i (mix i new old) ≡ new
+unfolding mix
+take-mix i new old e = rw (take-all i new (omega arith)) (take-at new (drop i old) i e)
+
+pub mix-whole : (i : ℕ) (new old : List ℕ) → length new ≡ i → mix i new old ≡ new ++ drop i old
+unfolding mix
+mix-whole i new old e = rw (take-all i new (omega arith))
+
+-- an index past the first list; it is a variable, with an equation that `omega` proves at each use
+pub set-append-at : (xs ys : List ℕ) (n k a : ℕ) → k ≡ length xs + n → set (xs ++ ys) k a ≡ xs ++ set ys n a
+set-append-at [] ys n k a e = let same : k ≡ n = omega arith in rw same
+set-append-at (x ∷ xs) ys n zero a e = absurd (omega arith)
+set-append-at (x ∷ xs) ys n (suc k) a e = ap (λ (l : List ℕ). x ∷ l) (set-append-at xs ys n k a (omega arith))
+
+pub getD-append-at : (xs ys : List ℕ) (n k : ℕ) → k ≡ length xs + n → getD (xs ++ ys) k 0 ≡ getD ys n 0
+getD-append-at [] ys n k e = let same : k ≡ n = omega arith in rw same
+getD-append-at (x ∷ xs) ys n zero e = absurd (omega arith)
+getD-append-at (x ∷ xs) ys n (suc k) e = getD-append-at xs ys n k (omega arith)
+
+pub drop-append-at : (xs ys : List ℕ) (n k : ℕ) → k ≡ length xs + n → drop k (xs ++ ys) ≡ drop n ys
+drop-append-at [] ys n k e = let same : k ≡ n = omega arith in rw same
+drop-append-at (x ∷ xs) ys n zero e = absurd (omega arith)
+drop-append-at (x ∷ xs) ys n (suc k) e = drop-append-at xs ys n k (omega arith)
+
+pub length-zipWith : (f : ℕ → ℕ → ℕ) (n : ℕ) (xs ys : List ℕ) → length xs ≡ n → length ys ≡ n → length (zipWith f xs ys) ≡ n
+unfolding zipWith
+length-zipWith f n [] ys p q = p
+length-zipWith f n (x ∷ xs) [] p q = absurd (omega arith)
+length-zipWith f zero (x ∷ xs) (y ∷ ys) p q = absurd (omega arith)
+length-zipWith f (suc n) (x ∷ xs) (y ∷ ys) p q = ap suc (length-zipWith f n xs ys (omega arith) (omega arith))
+
+pub getD-zipWith : (f : ℕ → ℕ → ℕ) (xs ys : List ℕ) (i : ℕ) → i < length xs → i < length ys → getD (zipWith f xs ys) i 0 ≡ f (getD xs i 0) (getD ys i 0)
+unfolding zipWith
+getD-zipWith f [] ys i p q = absurd (omega arith)
+getD-zipWith f (x ∷ xs) [] i p q = absurd (omega arith)
+getD-zipWith f (x ∷ xs) (y ∷ ys) zero p q = refl
+getD-zipWith f (x ∷ xs) (y ∷ ys) (suc i) p q = getD-zipWith f xs ys i (omega arith) (omega arith)
+
+-- ---- two halves of n elements each, both overwritten up to i
+
+unfoldable pub halves : ℕ → List ℕ → List ℕ → List ℕ → List ℕ → List ℕ
+halves i new new′ old old′ = mix i new old ++ mix i new′ old′
+
+module _ (n : ℕ) (new new′ old old′ : List ℕ) (ln : length new ≡ n) (ln′ : length new′ ≡ n) (lo : length old ≡ n) (lo′ : length old′ ≡ n) where
+  pub halves-none : halves 0 new new′ old old′ ≡ old ++ old′
+  unfolding halves
+  halves-none = rw (mix-none new old, mix-none new′ old′)
+
+  pub halves-all : halves n new new′ old old′ ≡ new ++ new′
+  unfolding halves
+  halves-all = rw (mix-all n new old ln lo, mix-all n new′ old′ ln′ lo′)
+
+  module _ (i : ℕ) (h : i < n) where
+    length-first : length (mix i new old) ≡ n
+    length-first = length-mix i new old (ln ∙ sym lo) ∙ lo
+
+    pub read-first : getD (halves i new new′ old old′) i 0 ≡ getD old i 0
+    unfolding halves
+    read-first =
+        List·getD-append (mix i new old) (mix i new′ old′) 0 i (omega (arith, length-first))
+        ∙ mix-at i new old (omega arith) (omega arith)
+
+    pub read-second : getD (halves i new new′ old old′) (n + i) 0 ≡ getD old′ i 0
+    unfolding halves
+    read-second =
+        getD-append-at (mix i new old) (mix i new′ old′) i (n + i) (omega (arith, length-first))
+        ∙ mix-at i new′ old′ (omega arith) (omega arith)
+
+    pub halves-turn : set (set (halves i new new′ old old′) i (getD new i 0)) (n + i) (getD new′ i 0) ≡ halves (i + 1) new new′ old old′
+    unfolding halves
+    halves-turn =
+        rw (
+          set-append-left (mix i new old) (mix i new′ old′) i (getD new i 0) (omega (arith, length-first)),
+          set-append-at (set (mix i new old) i (getD new i 0)) (mix i new′ old′) i (n + i) (getD new′ i 0) (omega (arith, length-first, length-set (mix i new old) i (getD new i 0))),
+          set-mix i new old (omega arith) (omega arith),
+          set-mix i new′ old′ (omega arith) (omega arith),
+        )
+
+-- ---- a slice of 2n elements whose two halves are lent one after the other
+
+module _ (n : ℕ) (xs first : List ℕ) (lf : length first ≡ n) (lx : length xs ≡ n + n) where
+  pub length-lent : length (first ++ drop n xs) ≡ n + n
+  length-lent = simp (length-append, length-drop) (omega arith)
+
+  -- what the second call is lent
+  pub second-lent : take (length (first ++ drop n xs) - n) (drop n (first ++ drop n xs)) ≡ drop n xs
+  second-lent =
+      rw (drop-at first (drop n xs) n lf)
+      (take-all (length (first ++ drop n xs) - n) (drop n xs) (simp (length-append, length-drop) (omega arith)))
+
+  -- the slice once both have come back
+  pub both-back : (second : List ℕ) → putMid n (length (first ++ drop n xs) - n) (first ++ drop n xs) second ≡ first ++ second
+  both-back second =
+      let rest : drop (length (first ++ drop n xs) - n) (drop n (first ++ drop n xs)) ≡ [] =
+      drop-of-length-le (drop n (first ++ drop n xs)) {i = length (first ++ drop n xs) - n} (simp (length-drop, length-append) (omega arith)) in
+      rw (take-at first (drop n xs) n lf, rest, append-nil second)
+
+-- ---- a middle part that is lent, written and given back
+
+pub mul-next : (r p : ℕ) → (r + 1) * p ≡ r * p + p
+mul-next r p = rw (add-one r, suc-mul r p)
+
+pub length-put : (a k : ℕ) (xs ys : List ℕ) → a + k ≤ length xs → length ys ≡ k → length (putMid a k xs ys) ≡ length xs
+length-put a k xs ys h e = same-len-mid a k xs ys (e ∙ sym (length-take-le k (drop a xs) (omega (arith, length-drop a xs))))
+
+-- what is written up to the end of the part
+pub take-put-end : (a k : ℕ) (xs ys : List ℕ) → a ≤ length xs → length ys ≡ k → take (a + k) (putMid a k xs ys) ≡ take a xs ++ ys
+take-put-end a k xs ys h e =
+    rw (← append-assoc (take a xs) ys (drop k (drop a xs)))
+    (take-at (take a xs ++ ys) (drop k (drop a xs)) (a + k) (length-append (take a xs) ys ∙ omega (arith, length-take-le a xs h)))
+
+-- the same for a part from a to a + k, as the code cuts it
+pub length-cut : (a k : ℕ) (xs : List ℕ) → a + k ≤ length xs → length (take (a + k - a) (drop a xs)) ≡ k
+length-cut a k xs h = simp (length-take, length-drop) (omega arith)
+
+pub length-put-cut : (a k : ℕ) (xs ys : List ℕ) → a + k ≤ length xs → length ys ≡ k → length (putMid a (a + k - a) xs ys) ≡ length xs
+length-put-cut a k xs ys h e = let count : a + k - a ≡ k = omega arith in rw count (length-put a k xs ys h e)
+
+pub take-put-cut : (a k : ℕ) (xs ys : List ℕ) → a + k ≤ length xs → length ys ≡ k → take (a + k) (putMid a (a + k - a) xs ys) ≡ take a xs ++ ys
+take-put-cut a k xs ys h e = let count : a + k - a ≡ k = omega arith in rw count (take-put-end a k xs ys (omega arith) e)
+
+-- a copy over a whole list
+pub copy-whole : (new old : List ℕ) → length new ≡ length old → new ++ drop (length new) old ≡ new
+copy-whole new old e = rw (drop-of-length-le old {i = length new} (omega arith), append-nil new)

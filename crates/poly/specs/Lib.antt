@@ -1,0 +1,8 @@
+-- Polynomials over a field of characteristic 2, spans, subspace polynomials and the novel basis.
+pub mod Poly
+pub mod Interpolate
+pub mod Span
+pub mod Novel
+pub mod Transform
+pub mod Degree
+pub mod Tower
