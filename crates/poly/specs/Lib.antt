@@ -2,6 +2,7 @@
 pub mod Poly
 pub mod Interpolate
 pub mod Span
+pub mod Codeword
 pub mod Novel
 pub mod Transform
 pub mod Degree
