@@ -3,4 +3,5 @@ pub mod All
 pub mod Answers
 pub mod Overwrite
 pub mod Pick
+pub mod Stretch
 pub mod Tables
