@@ -1,0 +1,2 @@
+-- The checked setting, and the values of the subspace polynomials.
+pub mod Values
