@@ -8,3 +8,5 @@ pub mod Product
 pub mod Decide
 pub mod Laws
 pub mod Symbols
+pub mod Products
+pub mod Division
