@@ -120,3 +120,15 @@ module _ (d : ℕ) (pos : 0 < d) where
   -- where no bit is left above the degree of d, x is the remainder
   pub divided : (v q x i : ℕ) → v ≡ clmul q d ⊕ x → x < 2 ^ i → i ≤ degree d → Divided v d q x
   divided v q x i e h l = record { remainder = sym (rem-unique d pos v q e (lt-of-lt-of-le h (pow-mono l))); whole = e }
+
+-- ---- where trial division ends, as a shift of 2 on 32 bits
+
+pub trials-end : (m : ℕ) → degree m < 17
+    → (2 * 2 ^ (degree m / 2) % 4294967296 ≡ 2 ^ (degree m / 2 + 1)) × (2 * 2 ^ (degree m / 2) % 4294967296 ≤ 512)
+trials-end m h = (omega (arith, next, small), omega (arith, next, small))
+  where
+    next : 2 ^ (degree m / 2 + 1) ≡ 2 ^ (degree m / 2) * 2
+    next = rw (add-one (degree m / 2), pow-suc 2 (degree m / 2))
+
+    small : 2 ^ (degree m / 2 + 1) ≤ 512
+    small = pow-mono {j = 9} (omega arith)

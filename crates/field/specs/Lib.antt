@@ -10,3 +10,5 @@ pub mod Laws
 pub mod Symbols
 pub mod Products
 pub mod Division
+pub mod Checks
+pub mod Ranges

@@ -4,3 +4,4 @@ pub mod Answers
 pub mod Overwrite
 pub mod Pick
 pub mod Tables
+pub mod Decides
