@@ -2,11 +2,14 @@
 use mathlib.Core.Path.{_≡_}
 use mathlib.Core.Logic.{_⊎_, inl, inr}
 use mathlib.Core.List.{[], _∷_}
-use Prim.Native.Nat.{ℕ, _≤_, _<_}
+use Prim.Native.Nat.{ℕ, _^_, _≤_, _<_}
+use native.Mathlib.Nat.{lt-of-lt-of-le}
 use native.Mathlib.Omega.{arith}
+use lib.Pow.{pow-mono}
 use Rattle.lists.specs.Answers.{Checks, Passes}
-use Rattle.field.specs.Binary.{Irreducible}
+use Rattle.field.specs.Binary.{degree, Irreducible}
 use Rattle.field.specs.Decide.{irreducible-stable}
+use Rattle.field.specs.Division.{degree-high}
 use Rattle.field.specs.Products.{Sized}
 use Rattle.field.specs.declared.Field.{Field}
 
@@ -40,3 +43,12 @@ pub record FieldOf (m : ℕ) (f : Field) : Type 0 where
   pub modulus : f .modulus ≡ m
   pub sized : Sized f
   pub low : 3 ≤ f .degree
+
+-- ---- what fits 16 and 17 bits in a field
+
+module _ {f : Field} (s : Sized f) where
+  pub symbols-small : 2 ^ degree (f .modulus) ≤ 65536
+  symbols-small = pow-mono {j = 16} (omega (arith, s .right, s .small))
+
+  pub modulus-small : f .modulus < 131072
+  modulus-small = lt-of-lt-of-le (degree-high (f .modulus)) (pow-mono {j = 17} (omega (arith, s .right, s .small)))

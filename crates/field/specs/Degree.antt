@@ -38,6 +38,12 @@ pub degree-positive : {a i : ℕ} → HasDegree a i → 2 ≤ a → 0 < i
 degree-positive {i = zero} d h = absurd (omega (arith, d .high))
 degree-positive {i = suc i} d h = omega arith
 
+-- a number whose degree is not 0 is not 0
+pub degree-positive-number : (n : ℕ) → 0 < degree n → 0 < n
+unfolding degree
+degree-positive-number zero h = h
+degree-positive-number (suc n) h = omega arith
+
 pub half-degree : {a i : ℕ} → HasDegree a (suc i) → HasDegree (a / 2) i
 half-degree {a} {i} d = record { low = omega (arith, d .low, pow-suc 2 i); high = omega (arith, d .high, pow-suc 2 (suc i)) }
 
@@ -71,7 +77,7 @@ xor-degree {a} {b} {i} d h =
     not-below : ¬ (a ⊕ b < 2 ^ i)
     not-below l = lt-irrefl a (lt-of-lt-of-le (subst (λ (x : ℕ). x < 2 ^ i) (sym (xor-move a b refl)) (xor-below i l h)) (d .low))
 
-top-bit : {a i : ℕ} → HasDegree a i → a / 2 ^ i ≡ 1
+pub top-bit : {a i : ℕ} → HasDegree a i → a / 2 ^ i ≡ 1
 top-bit {a} {i} d = div-eq-of-lt-le (2 ^ i) (omega (arith, d .low)) (omega (arith, d .high, pow-suc 2 i))
 
 -- two summands of the same degree leave a lower one

@@ -12,3 +12,4 @@ pub mod Products
 pub mod Division
 pub mod Checks
 pub mod Ranges
+pub mod Euclid

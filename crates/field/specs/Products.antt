@@ -1,9 +1,9 @@
 -- Products of lists of symbols, symbol by symbol.
 use mathlib.Core.Path.{_≡_}
 use mathlib.Core.List.{List, _++_, zipWith}
-use mathlib.Core.Logic.{_⊎_}
 use Prim.Native.Nat.{ℕ, _+_, _≤_, _<_}
 use lib.ListN.{length, take, drop}
+use Rattle.lists.specs.Stretch.{stretch}
 use Rattle.field.specs.Binary.{_⊕_, degree, product}
 use Rattle.field.specs.declared.Field.{Field}
 
@@ -12,16 +12,6 @@ pub record Sized (f : Field) : Type 0 where
   pub right : f .degree ≡ degree (f .modulus)
   pub positive : 0 < f .degree
   pub small : f .degree ≤ 16
-
--- the stretches of n elements from a on and from b on lie in a list of the length, and do not meet
-pub record Apart (n a b len : ℕ) : Type 0 where
-  pub first : a + n ≤ len
-  pub second : b + n ≤ len
-  pub apart : (a + n ≤ b) ⊎ (b + n ≤ a)
-
--- the n elements from a on
-unfoldable pub stretch : ℕ → ℕ → List ℕ → List ℕ
-stretch n a xs = take n (drop a xs)
 
 -- each element with the product of (t + c) and the factor added
 unfoldable pub addProducts : ℕ → ℕ → List ℕ → List ℕ → List ℕ → List ℕ

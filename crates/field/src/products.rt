@@ -4,8 +4,9 @@ ghost use mathlib.Core.Path.{_≡_};
 ghost use Prim.Native.Nat.{_*_, _/_, _%_, _<_, _≤_, _^_};
 ghost use lib.ListN.{length};
 ghost use Rattle.lists.specs.All.{Below};
+ghost use Rattle.lists.specs.Stretch.{Apart};
 ghost use Rattle.field.specs.Binary.{_⊕_, degree, product};
-ghost use Rattle.field.specs.Products.{Sized, Apart, accumulated};
+ghost use Rattle.field.specs.Products.{Sized, accumulated};
 
 // The double of x, where bit 15 is the highest bit of a symbol and m the modulus without its bit
 // 16. The top bit is a number, times the modulus: no branch.
@@ -17,12 +18,12 @@ fn twice(m: u16, x: u16) -> u16
 
 // The product of two symbols: Horner's rule over the bits of y in 16 steps, on symbols that are
 // shifted up to bit 15. It has one caller, so that the compiler puts it into that loop.
-fn times(f: Field, x: u16, y: u16) -> u16
-    requires { ⌜ Sized f × (x < 2 ^ degree (f .modulus)) × (y < 2 ^ degree (f .modulus)) ⌝ }
-    ensures { λ r. ⌜ r ≡ product (f .modulus) x y ⌝ }
+fn times(modulus: u32, l: u32, x: u16, y: u16) -> u16
+    requires { ⌜ (l ≡ degree modulus) × (0 < l) × (l ≤ 16) × (x < 2 ^ l) × (y < 2 ^ l) ⌝ }
+    ensures { λ r. ⌜ r ≡ product modulus x y ⌝ }
 {
-    let s = 16 - f.degree;
-    let m = ((f.modulus << s) % 65536) as u16;
+    let s = 16 - l;
+    let m = ((modulus << s) % 65536) as u16;
     let z = x << s;
     let mut acc: u16 = 0;
     let mut i: u32 = 16;
@@ -39,9 +40,11 @@ pub fn add_products(f: Field, t: &[u16], c: u16, from: usize, to: usize, values:
     requires { ⌜ Below (2 ^ degree (f .modulus)) (now t) × Below (2 ^ degree (f .modulus)) (now values) × Apart (length (now t)) from to (length (now values)) ⌝ }
     ensures { λ _. ⌜ now (values .exit) ≡ accumulated (f .modulus) c (now (t .entry)) from to (now (values .entry)) ⌝ }
 {
+    let m = f.modulus;
+    let l = f.degree;
     let mut i = 0;
     while i < t.len() {
-        values[to + i] ^= times(f, t[i] ^ c, values[from + i]);
+        values[to + i] ^= times(m, l, t[i] ^ c, values[from + i]);
         i += 1;
     }
 }

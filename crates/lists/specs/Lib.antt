@@ -3,5 +3,6 @@ pub mod All
 pub mod Answers
 pub mod Overwrite
 pub mod Pick
+pub mod Stretch
 pub mod Tables
 pub mod Decides
