@@ -57,6 +57,13 @@ degree-below {a} {i} j d h = omega (arith, not-above)
     not-above : ¬ (j ≤ i)
     not-above l = lt-irrefl a (lt-of-lt-of-le h (le-trans (pow-mono l) (d .low)))
 
+-- a number from 2^j on has a degree of at least j
+pub degree-above : {a i : ℕ} (j : ℕ) → HasDegree a i → 2 ^ j ≤ a → j ≤ i
+degree-above {a} {i} j d h = omega (arith, not-below)
+  where
+    not-below : ¬ (suc i ≤ j)
+    not-below l = lt-irrefl a (lt-of-lt-of-le (d .high) (le-trans (pow-mono l) h))
+
 pub degree-unique : {a i j : ℕ} → HasDegree a i → HasDegree a j → i ≡ j
 degree-unique {a} {i} {j} d e = omega (arith, degree-below (suc j) d (e .high), degree-below (suc i) e (d .high))
 

@@ -9,3 +9,7 @@ pub mod Decide
 pub mod Laws
 pub mod Symbols
 pub mod Products
+pub mod Division
+pub mod Checks
+pub mod Ranges
+pub mod Euclid
