@@ -13,7 +13,7 @@ use lib.Seq.{take-at, drop-at, take-take, getD-take, length-take-le}
 use Rattle.field.specs.Laws.{Ops, IsField, ring, 0-⊕, ⊗-1}
 use Rattle.lists.specs.All.{All, drop-take, All-take, All-drop, All-drop-le, All-append, All-replicate, IsZero}
 use Rattle.poly.specs.Poly.{eval, addP, mulP, length-addP, length-mulP, eval-addP, eval-mulP, eval-sym, addP-sym, mulP-sym, eval-unique}
-use Rattle.poly.specs.Span.{elem, vanish, Independent, vanish-sym, vanish-cons, elem-sym, elem-distinct}
+use Rattle.poly.specs.Span.{elem, vanish, Independent, vanish-sym, vanish-nil, vanish-cons, elem-sym, elem-distinct}
 use Rattle.poly.specs.Transform.{OnCoset, evalX-exists}
 use Rattle.poly.specs.Novel.{W, evalX, W-next, getD-sym, evalX-unique}
 
@@ -66,7 +66,7 @@ module _ {K : Ops} (F : IsField K) where
   constant-eval a x = simp (ring, F)
 
   pub eval-vanishP : (bs : List ℕ) (x : ℕ) → Sym x → eval K (vanishP K bs) x ≡ vanish K bs x
-  eval-vanishP [] x s = identity-eval x s
+  eval-vanishP [] x s = identity-eval x s ∙ sym (vanish-nil F x)
   eval-vanishP (b ∷ bs) x s =
       eval-mulP F (vanishP K bs) (addP K (vanishP K bs) (vanish K bs b ∷ [])) x
       ∙ ap₂ _⊗_ (eval-vanishP bs x s) (eval-addP F (vanishP K bs) (vanish K bs b ∷ []) x ∙ ap₂ _⊕_ (eval-vanishP bs x s) (constant-eval (vanish K bs b) x))

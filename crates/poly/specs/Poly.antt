@@ -1,12 +1,11 @@
 -- Polynomials as lists of coefficients, lowest first: value, sum, multiple, quotient by x + a, and the bound on the number of roots.
-use mathlib.Core.Path.{_≡_, refl, sym, ap, ap₂, _∙_, subst, subst⁻¹}
+use mathlib.Core.Path.{_≡_, refl, sym, ap, ap₂, _∙_}
 use mathlib.Core.Logic.{_≢_}
-use mathlib.Core.List.{List, [], _∷_, _++_}
-use Prim.Native.Nat.{ℕ, zero, suc, _+_, _-_, _≤_, _<_, max}
-use native.Mathlib.Nat.{suc-inj, suc-ne-zero, zero-add, suc-add}
+use mathlib.Core.List.{List, [], _∷_}
+use Prim.Native.Nat.{ℕ, zero, suc, _+_, _<_, max}
+use native.Mathlib.Nat.{suc-inj, suc-ne-zero}
 use native.Mathlib.Omega.{arith}
-use lib.ListN.{length, replicate, take, drop, take-append-drop}
-use lib.Seq.{take-nil, drop-drop}
+use lib.ListN.{length, take, drop}
 use Rattle.lists.specs.All.{All, IsZero}
 use Rattle.field.specs.Laws.{combine, Ops, IsField, ring, sums, ⊕-zero, ⊗-zero, ⊕-0, ⊗-0}
 

@@ -11,7 +11,7 @@ use lib.Seq.{getD-drop, drop-append-le}
 use Rattle.field.specs.Laws.{Ops, IsField}
 use Rattle.lists.specs.All.{All, All-take, All-drop, All-drop-le, All-drop-take, All-append, IsZero}
 use Rattle.poly.specs.Poly.{addP, scaleP, length-addP, length-scaleP}
-use Rattle.poly.specs.Span.{vanish-zero}
+use Rattle.poly.specs.Span.{vanish-nil, vanish-zero}
 use Rattle.poly.specs.Degree.{evalX-zeros}
 use Rattle.poly.specs.Novel.{W, W-suc, evalX, evalX-halves, evalX-addP, evalX-scaleP}
 
@@ -49,7 +49,7 @@ module _ {K : Ops} (F : IsField K) (bs : List ℕ) (h : ℕ) where
 
   -- The subspace polynomials past h are those of the images, at q(x)
   pub W-tower : (c : ℕ) → h + c ≤ length bs → (x : ℕ) → W K bs (h + c) x ≡ W K (images K bs h) c (W K bs h x)
-  W-tower zero hc x = ap (λ (k : ℕ). W K bs k x) (add-zero h)
+  W-tower zero hc x = ap (λ (k : ℕ). W K bs k x) (add-zero h) ∙ sym (vanish-nil F (W K bs h x))
   W-tower (suc c) hc x =
       ap (λ (k : ℕ). W K bs k x) (add-suc h c) ∙ W-suc F bs (h + c) x (omega arith)
       ∙ ap₂ (λ (u v : ℕ). u ⊗ (u ⊕ v)) (W-tower c (omega arith) x)
