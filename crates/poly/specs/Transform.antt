@@ -79,6 +79,29 @@ module _ (K : Ops) (T : ℕ → ℕ → ℕ) where
             (length-inverse j (shifted K T j v) (drop (2 ^ j) g) (omega (arith, length-drop (2 ^ j) g))),
       )
 
+-- ---- only the images T i j and v j with i and j below the number of layers count
+
+module _ (K : Ops) (T S : ℕ → ℕ → ℕ) (m : ℕ) (same : (i j : ℕ) → i < m → j < m → T i j ≡ S i j) where
+  infixl 60 _⊕_
+  open Ops K using (_⊕_)
+
+  shifted-ext : (j : ℕ) → j < m → (u v : ℕ → ℕ) → ((i : ℕ) → i < suc j → u i ≡ v i) → (i : ℕ) → i < j → shifted K T j u i ≡ shifted K S j v i
+  shifted-ext j hj u v e i h = ap₂ _⊕_ (e i (omega arith)) (same j i hj (omega arith))
+
+  pub transform-ext : (j : ℕ) → j ≤ m → (u v : ℕ → ℕ) (d : List ℕ) → ((i : ℕ) → i < j → u i ≡ v i) → transform K T j u d ≡ transform K S j v d
+  transform-ext zero hj u v d e = refl
+  transform-ext (suc j) hj u v d e =
+      ap (λ (c : ℕ). transform K T j u (folded K j c d) ++ transform K T j (shifted K T j u) (addP K (folded K j c d) (drop (2 ^ j) d))) (e j (omega arith))
+      ∙ ap₂ _++_ (transform-ext j (omega arith) u v (folded K j (v j) d) (λ i h. e i (omega arith)))
+      (transform-ext j (omega arith) (shifted K T j u) (shifted K S j v) (addP K (folded K j (v j) d) (drop (2 ^ j) d)) (shifted-ext j hj u v e))
+
+  pub inverse-ext : (j : ℕ) → j ≤ m → (u v : ℕ → ℕ) (g : List ℕ) → ((i : ℕ) → i < j → u i ≡ v i) → inverse K T j u g ≡ inverse K S j v g
+  inverse-ext zero hj u v g e = refl
+  inverse-ext (suc j) hj u v g e =
+      ap (λ (c : ℕ). unfolded K c (inverse K T j u (take (2 ^ j) g)) (inverse K T j (shifted K T j u) (drop (2 ^ j) g))) (e j (omega arith))
+      ∙ ap₂ (unfolded K (v j)) (inverse-ext j (omega arith) u v (take (2 ^ j) g) (λ i h. e i (omega arith)))
+      (inverse-ext j (omega arith) (shifted K T j u) (shifted K S j v) (drop (2 ^ j) g) (shifted-ext j hj u v e))
+
 -- ---- each undoes the other
 
 module _ {K : Ops} (F : IsField K) where

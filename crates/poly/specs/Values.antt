@@ -27,6 +27,15 @@ at-halves n p q g e hp hq i h = by (decLt i n)
         ap (λ (k : ℕ). getD (p ++ q) k 0) {x = i} {y = length p + (i - n)} (omega arith) ∙ getD-append-add p q (i - n) 0 ∙ hq (i - n) (omega arith)
         ∙ ap g {x = i - n + n} {y = i} (omega arith)
 
+module _ (K : Ops) (bs : List ℕ) where
+  -- The images of the basis
+  abbrev pub table : ℕ → ℕ → ℕ
+  table i j = image K bs j (getD bs i 0)
+
+  -- The images of a shift
+  abbrev pub imagesOf : ℕ → ℕ → ℕ
+  imagesOf s j = image K bs j s
+
 module _ {K : Ops} (F : IsField K) (bs : List ℕ) (sb : All (K .Sym) bs) (nz : (j : ℕ) → j < length bs → step K bs j ≢ 0) where
   infixl 60 _⊕_
   infixl 70 _⊗_
@@ -59,10 +68,10 @@ module _ {K : Ops} (F : IsField K) (bs : List ℕ) (sb : All (K .Sym) bs) (nz : 
       ∙ sym (evalX-addP F bs j (folded K j (image K bs j s) d) hi x)
 
   -- T holds the images of the first m basis elements
-  module _ (T : ℕ → ℕ → ℕ) (m : ℕ) (hm : m ≤ length bs) (table : (i j : ℕ) → i < m → j < m → T i j ≡ image K bs j (getD bs i 0)) where
+  module _ (T : ℕ → ℕ → ℕ) (m : ℕ) (hm : m ≤ length bs) (same : (i j : ℕ) → i < m → j < m → T i j ≡ table K bs i j) where
     shifted-image : (j : ℕ) → j < m → (v : ℕ → ℕ) (s : ℕ) → ((i : ℕ) → i < suc j → v i ≡ image K bs i s) → (i : ℕ) → i < j
         → shifted K T j v i ≡ image K bs i (s ⊕ getD bs j 0)
-    shifted-image j hj v s ev i h = ap₂ _⊕_ (ev i (omega arith)) (table j i hj (omega arith)) ∙ sym (image-sum F bs i s (getD bs j 0))
+    shifted-image j hj v s ev i h = ap₂ _⊕_ (ev i (omega arith)) (same j i hj (omega arith)) ∙ sym (image-sum F bs i s (getD bs j 0))
 
     -- The transform gives the values
     pub transform-at : (j : ℕ) → j ≤ m → (v : ℕ → ℕ) (s : ℕ) (d : List ℕ) → ((i : ℕ) → i < j → v i ≡ image K bs i s) → Sym s → length d ≡ 2 ^ j → All Sym d
@@ -96,7 +105,7 @@ module _ {K : Ops} (F : IsField K) (bs : List ℕ) (sb : All (K .Sym) bs) (nz : 
       inverse-values d e sd = ap (inverse K T m v) (sym (transform-values d e sd)) ∙ inverse-transform F T m v d e
 
       table-sym : (i j : ℕ) → i < m → j < m → Sym (T i j)
-      table-sym i j hi hj = subst⁻¹ Sym (table i j hi hj) (image-sym F bs sb j (getD bs i 0) (getD-sym F bs i sb))
+      table-sym i j hi hj = subst⁻¹ Sym (same i j hi hj) (image-sym F bs sb j (getD bs i 0) (getD-sym F bs i sb))
 
       shift-sym : (j : ℕ) → j < m → Sym (v j)
       shift-sym j h = subst⁻¹ Sym (ev j h) (image-sym F bs sb j s ss)
@@ -113,16 +122,10 @@ module _ {K : Ops} (F : IsField K) (bs : List ℕ) (sb : All (K .Sym) bs) (nz : 
   -- Two polynomials with 2 ^ j coefficients that agree on a coset of the first 2 ^ j elements are equal
   pub evalX-unique : (j : ℕ) → j ≤ length bs → (d e : List ℕ) (s : ℕ) → length d ≡ 2 ^ j → length e ≡ 2 ^ j → All Sym d → All Sym e → Sym s
       → ((i : ℕ) → i < 2 ^ j → evalX K bs j d (s ⊕ elem K bs i) ≡ evalX K bs j e (s ⊕ elem K bs i)) → d ≡ e
-  evalX-unique j hj d e s ld le sd se ss h = sym (back d ld sd) ∙ ap (inverse K T j v) (tab-ext (2 ^ j) _ _ h) ∙ back e le se
+  evalX-unique j hj d e s ld le sd se ss h = sym (back d ld sd) ∙ ap (inverse K (table K bs) j (imagesOf K bs s)) (tab-ext (2 ^ j) _ _ h) ∙ back e le se
     where
-      T : ℕ → ℕ → ℕ
-      T i j = image K bs j (getD bs i 0)
-
-      v : ℕ → ℕ
-      v j = image K bs j s
-
-      back : (d : List ℕ) → length d ≡ 2 ^ j → All Sym d → inverse K T j v (tab (2 ^ j) (λ i. evalX K bs j d (s ⊕ elem K bs i))) ≡ d
-      back = inverse-values T j hj (λ i j hi hj. refl) v s (λ j h. refl) ss
+      back : (d : List ℕ) → length d ≡ 2 ^ j → All Sym d → inverse K (table K bs) j (imagesOf K bs s) (tab (2 ^ j) (λ i. evalX K bs j d (s ⊕ elem K bs i))) ≡ d
+      back = inverse-values (table K bs) j hj (λ i j hi hj. refl) (imagesOf K bs s) s (λ j h. refl) ss
 
   -- The coefficients of the polynomial with given values on the coset of s
   pub record OnCoset (j s : ℕ) (g : ℕ → ℕ) : Type 0 where
@@ -135,17 +138,12 @@ module _ {K : Ops} (F : IsField K) (bs : List ℕ) (sb : All (K .Sym) bs) (nz : 
   pub evalX-exists : (j : ℕ) → j ≤ length bs → (s : ℕ) (g : ℕ → ℕ) → Sym s → ((i : ℕ) → i < 2 ^ j → Sym (g i)) → OnCoset j s g
   evalX-exists j hj s g ss sg =
       record {
-        coeffs = inverse K T j v l;
-        count = length-inverse K T j v l (length-tab (2 ^ j) g);
-        elements = coeffs-sym T j hj (λ i j hi hj. refl) v s (λ j h. refl) ss l (All-tab Sym (2 ^ j) g sg);
-        values = λ i h. inverse-at T j hj (λ i j hi hj. refl) v s (λ j h. refl) ss l (length-tab (2 ^ j) g) (All-tab Sym (2 ^ j) g sg) i h ∙ getD-tab (2 ^ j) g i 0 h;
+        coeffs = inverse K (table K bs) j (imagesOf K bs s) l;
+        count = length-inverse K (table K bs) j (imagesOf K bs s) l (length-tab (2 ^ j) g);
+        elements = coeffs-sym (table K bs) j hj (λ i j hi hj. refl) (imagesOf K bs s) s (λ j h. refl) ss l (All-tab Sym (2 ^ j) g sg);
+        values = λ i h. inverse-at (table K bs) j hj (λ i j hi hj. refl) (imagesOf K bs s) s (λ j h. refl) ss l (length-tab (2 ^ j) g) (All-tab Sym (2 ^ j) g sg) i h
+            ∙ getD-tab (2 ^ j) g i 0 h;
       }
     where
-      T : ℕ → ℕ → ℕ
-      T i j = image K bs j (getD bs i 0)
-
-      v : ℕ → ℕ
-      v j = image K bs j s
-
       l : List ℕ
       l = tab (2 ^ j) g
