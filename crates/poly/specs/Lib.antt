@@ -7,4 +7,5 @@ pub mod Novel
 pub mod Transform
 pub mod Values
 pub mod Degree
+pub mod Blocks
 pub mod Tower
