@@ -5,5 +5,7 @@ pub mod Span
 pub mod Codeword
 pub mod Novel
 pub mod Transform
+pub mod Values
 pub mod Degree
+pub mod Blocks
 pub mod Tower

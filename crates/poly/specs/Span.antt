@@ -1,15 +1,15 @@
 -- The span of a basis over GF(2): its element number i, linear independence, and the polynomial that vanishes on it.
-use mathlib.Core.Path.{_≡_, refl, sym, ap, ap₂, _∙_}
+use mathlib.Core.Path.{_≡_, refl, sym, ap, ap₂, _∙_, subst⁻¹}
 use mathlib.Core.Logic.{_≢_, _↔_, _⊎_, inl, inr, ⊎-elim}
 use mathlib.Core.List.{List, [], _∷_, _++_, map}
-use Prim.Native.Nat.{ℕ, zero, suc, _+_, _*_, _^_, _/_, _%_, _<_}
+use Prim.Native.Nat.{ℕ, zero, suc, _+_, _*_, _^_, _-_, _/_, _%_, _<_}
 use native.Mathlib.Nat.{pow-succ', mul-assoc, mul-suc, mul-le-mul-left}
 use native.Mathlib.Decide.{ℕ-discrete}
 use native.Mathlib.Omega.{arith}
 use lib.ListN.{length, length-append, length-map}
 use lib.Pow.{pow-add, pow-pos}
 use lib.Bits.{bitXor, differ, xor-step, xor-lt, xor-add-and, and-le-l, and-le-r}
-use Rattle.field.specs.Laws.{Ops, IsField, ring, sums, ⊕-assoc, 0-⊕, ⊕-0, ⊕-move, ⊗-zero, 0-⊗, ⊗-1}
+use Rattle.field.specs.Laws.{Ops, IsField, ring, sums, ⊕-assoc, 0-⊕, ⊕-0, ⊕-move, ⊗-zero, 0-⊗}
 use Rattle.lists.specs.All.{All}
 use Rattle.poly.specs.Poly.{Distinct}
 
@@ -61,15 +61,14 @@ module _ (K : Ops) where
   abbrev pub InSpan : List ℕ → ℕ → Type 0
   InSpan bs x = (i : ℕ) × (i < 2 ^ length bs) × (x ≡ elem bs i)
 
-  -- The product of f i over i below n
-  abbrev pub product : ℕ → (ℕ → ℕ) → ℕ
-  product zero f = 1
-  product (suc n) f = f n ⊗ product n f
+  -- The product of f 0, f 1 and so on to f n
+  abbrev pub productTo : ℕ → (ℕ → ℕ) → ℕ
+  productTo zero f = f 0
+  productTo (suc n) f = f (suc n) ⊗ productTo n f
 
-  -- The subspace polynomial at x: the product of x + a over the span
-  abbrev pub vanish : List ℕ → ℕ → ℕ
-  vanish [] x = x
-  vanish (b ∷ bs) x = vanish bs x ⊗ vanish bs (x ⊕ b)
+  -- The subspace polynomial at x: the product of x - a over the elements a of the span (a sum is a difference)
+  unfoldable pub vanish : List ℕ → ℕ → ℕ
+  vanish bs x = productTo (2 ^ length bs - 1) (λ i. x ⊕ elem bs i)
 
 module _ {K : Ops} (F : IsField K) where
   infixl 60 _⊕_
@@ -128,35 +127,69 @@ module _ {K : Ops} (F : IsField K) where
   elem-distinct bs ind i j hi hj e =
       xor-zero i j (ind (bitXor i j) (xor-lt (length bs) i j hi hj) (elem-xor bs i j ∙ ap (λ (t : ℕ). t ⊕ elem K bs j) e ∙ F .sum-self (elem K bs j)))
 
+  productTo-ext : (n : ℕ) (f g : ℕ → ℕ) → ((i : ℕ) → f i ≡ g i) → productTo K n f ≡ productTo K n g
+  productTo-ext zero f g h = h 0
+  productTo-ext (suc n) f g h = ap₂ _⊗_ (h (suc n)) (productTo-ext n f g h)
+
+  swap-products : (a b c d : ℕ) → a ⊗ (b ⊗ (c ⊗ d)) ≡ b ⊗ c ⊗ (a ⊗ d)
+  swap-products a b c d = simp (ring, F)
+
+  -- A product over 2 (n + 1) numbers, the even and the odd apart
+  productTo-double : (n : ℕ) (f : ℕ → ℕ) → productTo K (2 * n + 1) f ≡ productTo K n (λ i. f (2 * i)) ⊗ productTo K n (λ i. f (2 * i + 1))
+  productTo-double zero f = F .prod-comm (f 1) (f 0)
+  productTo-double (suc n) f =
+      ap (λ (k : ℕ). productTo K k f) {x = 2 * suc n + 1} {y = suc (suc (2 * n + 1))} (omega arith)
+      ∙ ap (λ (k : ℕ). f k ⊗ (f (suc (2 * n + 1)) ⊗ productTo K (2 * n + 1) f)) {x = suc (suc (2 * n + 1))} {y = 2 * suc n + 1} (omega arith)
+      ∙ ap (λ (k : ℕ). f (2 * suc n + 1) ⊗ (f k ⊗ productTo K (2 * n + 1) f)) {x = suc (2 * n + 1)} {y = 2 * suc n} (omega arith)
+      ∙ ap (λ (t : ℕ). f (2 * suc n + 1) ⊗ (f (2 * suc n) ⊗ t)) (productTo-double n f)
+      ∙ swap-products (f (2 * suc n + 1)) (f (2 * suc n)) (productTo K n (λ i. f (2 * i))) (productTo K n (λ i. f (2 * i + 1)))
+
+  pub vanish-nil : (x : ℕ) → vanish K [] x ≡ x
+  unfolding vanish
+  vanish-nil x = ⊕-0 F x
+
+  -- The product over the span of b and bs: over the span of bs, and over its coset of b
+  pub vanish-split : (b : ℕ) (bs : List ℕ) (x : ℕ) → vanish K (b ∷ bs) x ≡ vanish K bs x ⊗ vanish K bs (x ⊕ b)
+  unfolding vanish
+  vanish-split b bs x =
+      ap (λ (k : ℕ). productTo K k (λ i. x ⊕ elem K (b ∷ bs) i)) {x = 2 ^ suc (length bs) - 1} {y = 2 * (2 ^ length bs - 1) + 1} (omega (arith, pow-succ' 2 (length bs), pow-pos (length bs)))
+      ∙ productTo-double (2 ^ length bs - 1) (λ i. x ⊕ elem K (b ∷ bs) i)
+      ∙ ap₂ _⊗_
+      (productTo-ext (2 ^ length bs - 1) (λ i. x ⊕ elem K (b ∷ bs) (2 * i)) (λ i. x ⊕ elem K bs i) (λ i. ap (λ (t : ℕ). x ⊕ t) (elem-even b bs i)))
+      (productTo-ext (2 ^ length bs - 1) (λ i. x ⊕ elem K (b ∷ bs) (2 * i + 1)) (λ i. x ⊕ b ⊕ elem K bs i)
+      (λ i. ap (λ (t : ℕ). x ⊕ t) (elem-odd b bs i) ∙ sym (⊕-assoc F x b (elem K bs i))))
+
   additive-step : (f : ℕ → ℕ) → ((x y : ℕ) → f (x ⊕ y) ≡ f x ⊕ f y) → (b x y : ℕ) → f (x ⊕ y) ⊗ f (x ⊕ y ⊕ b) ≡ f x ⊗ f (x ⊕ b) ⊕ f y ⊗ f (y ⊕ b)
   additive-step f h b x y = simp (h, ring, F)
 
   -- The subspace polynomial is additive
   pub vanish-sum : (bs : List ℕ) (x y : ℕ) → vanish K bs (x ⊕ y) ≡ vanish K bs x ⊕ vanish K bs y
-  vanish-sum [] x y = refl
-  vanish-sum (b ∷ bs) x y = additive-step (vanish K bs) (vanish-sum bs) b x y
+  vanish-sum [] x y = vanish-nil (x ⊕ y) ∙ sym (ap₂ _⊕_ (vanish-nil x) (vanish-nil y))
+  vanish-sum (b ∷ bs) x y = vanish-split b bs (x ⊕ y) ∙ additive-step (vanish K bs) (vanish-sum bs) b x y ∙ sym (ap₂ _⊕_ (vanish-split b bs x) (vanish-split b bs y))
 
   pub vanish-zero : (bs : List ℕ) → vanish K bs 0 ≡ 0
-  vanish-zero [] = refl
-  vanish-zero (b ∷ bs) = ap (λ (t : ℕ). t ⊗ vanish K bs (0 ⊕ b)) (vanish-zero bs) ∙ 0-⊗ F (vanish K bs (0 ⊕ b))
+  vanish-zero [] = vanish-nil 0
+  vanish-zero (b ∷ bs) = vanish-split b bs 0 ∙ ap (λ (t : ℕ). t ⊗ vanish K bs (0 ⊕ b)) (vanish-zero bs) ∙ 0-⊗ F (vanish K bs (0 ⊕ b))
 
   pub vanish-sym : (bs : List ℕ) (x : ℕ) → All Sym bs → Sym x → Sym (vanish K bs x)
-  vanish-sym [] x s sx = sx
-  vanish-sym (b ∷ bs) x s sx = F .sym-prod (vanish-sym bs x (s .1) sx) (vanish-sym bs (x ⊕ b) (s .1) (F .sym-sum sx (s .0)))
+  vanish-sym [] x s sx = subst⁻¹ Sym (vanish-nil x) sx
+  vanish-sym (b ∷ bs) x s sx = subst⁻¹ Sym (vanish-split b bs x) (F .sym-prod (vanish-sym bs x (s .1) sx) (vanish-sym bs (x ⊕ b) (s .1) (F .sym-sum sx (s .0))))
 
   snoc-step : (f : ℕ → ℕ) (x b c : ℕ) → f x ⊗ f (x ⊕ b) ⊗ (f (x ⊕ c) ⊗ f (x ⊕ c ⊕ b)) ≡ f x ⊗ f (x ⊕ c) ⊗ (f (x ⊕ b) ⊗ f (x ⊕ b ⊕ c))
   snoc-step f x b c = simp (ring, F)
 
   vanish-snoc′ : (bs : List ℕ) (b x : ℕ) → vanish K (bs ++ (b ∷ [])) x ≡ vanish K bs x ⊗ vanish K bs (x ⊕ b)
-  vanish-snoc′ [] b x = refl
-  vanish-snoc′ (c ∷ bs) b x = ap₂ _⊗_ (vanish-snoc′ bs b x) (vanish-snoc′ bs b (x ⊕ c)) ∙ snoc-step (vanish K bs) x b c
+  vanish-snoc′ [] b x = vanish-split b [] x
+  vanish-snoc′ (c ∷ bs) b x =
+      vanish-split c (bs ++ (b ∷ [])) x ∙ ap₂ _⊗_ (vanish-snoc′ bs b x) (vanish-snoc′ bs b (x ⊕ c)) ∙ snoc-step (vanish K bs) x b c
+      ∙ sym (ap₂ _⊗_ (vanish-split c bs x) (vanish-split c bs (x ⊕ b)))
 
   -- One more basis element, at either end
   pub vanish-cons : (b : ℕ) (bs : List ℕ) (x : ℕ) → vanish K (b ∷ bs) x ≡ vanish K bs x ⊗ (vanish K bs x ⊕ vanish K bs b)
-  vanish-cons b bs x = ap (λ (t : ℕ). vanish K bs x ⊗ t) (vanish-sum bs x b)
+  vanish-cons b bs x = vanish-split b bs x ∙ ap (λ (t : ℕ). vanish K bs x ⊗ t) (vanish-sum bs x b)
 
   pub vanish-snoc : (bs : List ℕ) (b x : ℕ) → vanish K (bs ++ (b ∷ [])) x ≡ vanish K bs x ⊗ (vanish K bs x ⊕ vanish K bs b)
-  vanish-snoc bs b x = vanish-snoc′ bs b x ∙ vanish-cons b bs x
+  vanish-snoc bs b x = vanish-snoc′ bs b x ∙ ap (λ (t : ℕ). vanish K bs x ⊗ t) (vanish-sum bs x b)
 
   -- It is 0 on the span
   root-step : (f : ℕ → ℕ) (u b e : ℕ) → f e ≡ 0 → f (bitOf u b ⊕ e) ⊗ f (bitOf u b ⊕ e ⊕ b) ≡ 0
@@ -164,8 +197,8 @@ module _ {K : Ops} (F : IsField K) where
   root-step f (suc u) b e h = simp (h, ring, F)
 
   pub vanish-elem : (bs : List ℕ) (i : ℕ) → vanish K bs (elem K bs i) ≡ 0
-  vanish-elem [] i = refl
-  vanish-elem (b ∷ bs) i = root-step (vanish K bs) (i % 2) b (elem K bs (i / 2)) (vanish-elem bs (i / 2))
+  vanish-elem [] i = vanish-nil 0
+  vanish-elem (b ∷ bs) i = vanish-split b bs (elem K (b ∷ bs) i) ∙ root-step (vanish K bs) (i % 2) b (elem K bs (i / 2)) (vanish-elem bs (i / 2))
 
   -- It is constant on the cosets of the span
   pub vanish-coset : (bs : List ℕ) (x i : ℕ) → vanish K bs (x ⊕ elem K bs i) ≡ vanish K bs x
@@ -186,10 +219,10 @@ module _ {K : Ops} (F : IsField K) where
 
   -- Each root is in the span
   pub vanish-root : (bs : List ℕ) (x : ℕ) → All Sym bs → Sym x → vanish K bs x ≡ 0 → InSpan K bs x
-  vanish-root [] x s sx e = (0, omega arith, e)
+  vanish-root [] x s sx e = (0, omega arith, sym (vanish-nil x) ∙ e)
   vanish-root (b ∷ bs) x s sx e =
       ⊎-elim (λ z. span-even b bs x (vanish-root bs x (s .1) sx z)) (λ z. span-odd b bs x (vanish-root bs (x ⊕ b) (s .1) (F .sym-sum sx (s .0)) z))
-      (zero-split (vanish K bs x) (vanish K bs (x ⊕ b)) (vanish-sym bs x (s .1) sx) (vanish-sym bs (x ⊕ b) (s .1) (F .sym-sum sx (s .0))) e)
+      (zero-split (vanish K bs x) (vanish K bs (x ⊕ b)) (vanish-sym bs x (s .1) sx) (vanish-sym bs (x ⊕ b) (s .1) (F .sym-sum sx (s .0))) (sym (vanish-split b bs x) ∙ e))
 
   -- The roots are the elements of the span
   pub vanish-iff : (bs : List ℕ) (x : ℕ) → All Sym bs → Sym x → (vanish K bs x ≡ 0) ↔ InSpan K bs x
@@ -222,30 +255,3 @@ module _ {K : Ops} (F : IsField K) where
       vanish-independent bs (b ∷ cs) sb sc ind 1 (omega (arith, pow-succ' 2 (length (map (vanish K bs) cs)), pow-pos (length (map (vanish K bs) cs))))
       (elem-odd (vanish K bs b) (map (vanish K bs) cs) 0 ∙ ap₂ _⊕_ e (elem-zero (map (vanish K bs) cs)) ∙ F .sum-self 0)
       in omega arith
-
-  product-ext : (n : ℕ) (f g : ℕ → ℕ) → ((i : ℕ) → f i ≡ g i) → product K n f ≡ product K n g
-  product-ext zero f g h = refl
-  product-ext (suc n) f g h = ap₂ _⊗_ (h n) (product-ext n f g h)
-
-  swap-products : (a b c d : ℕ) → a ⊗ (b ⊗ (c ⊗ d)) ≡ b ⊗ c ⊗ (a ⊗ d)
-  swap-products a b c d = simp (ring, F)
-
-  -- A product over 2 n numbers, the even and the odd apart
-  product-double : (n : ℕ) (f : ℕ → ℕ) → product K (2 * n) f ≡ product K n (λ i. f (2 * i)) ⊗ product K n (λ i. f (2 * i + 1))
-  product-double zero f = sym (F .one-prod 1 (F .sym-one))
-  product-double (suc n) f =
-      ap (λ (k : ℕ). product K k f) {x = 2 * suc n} {y = suc (suc (2 * n))} (omega arith)
-      ∙ ap (λ (t : ℕ). f (suc (2 * n)) ⊗ (f (2 * n) ⊗ t)) (product-double n f)
-      ∙ swap-products (f (suc (2 * n))) (f (2 * n)) (product K n (λ i. f (2 * i))) (product K n (λ i. f (2 * i + 1)))
-      ∙ ap (λ (k : ℕ). f (2 * n) ⊗ product K n (λ i. f (2 * i)) ⊗ (f k ⊗ product K n (λ i. f (2 * i + 1)))) {x = suc (2 * n)} {y = 2 * n + 1} (omega arith)
-
-  -- The subspace polynomial is the product over the span
-  pub vanish-product : (bs : List ℕ) (x : ℕ) → All Sym bs → Sym x → vanish K bs x ≡ product K (2 ^ length bs) (λ i. x ⊕ elem K bs i)
-  vanish-product [] x s sx = sym (ap (λ (t : ℕ). t ⊗ 1) (⊕-0 F x) ∙ ⊗-1 F x sx)
-  vanish-product (b ∷ bs) x s sx =
-      ap₂ _⊗_
-      (vanish-product bs x (s .1) sx ∙ product-ext (2 ^ length bs) _ _ (λ i. ap (λ (t : ℕ). x ⊕ t) (sym (elem-even b bs i))))
-      (vanish-product bs (x ⊕ b) (s .1) (F .sym-sum sx (s .0))
-      ∙ product-ext (2 ^ length bs) _ _ (λ i. ⊕-assoc F x b (elem K bs i) ∙ ap (λ (t : ℕ). x ⊕ t) (sym (elem-odd b bs i))))
-      ∙ sym (product-double (2 ^ length bs) (λ i. x ⊕ elem K (b ∷ bs) i))
-      ∙ ap (λ (k : ℕ). product K k (λ i. x ⊕ elem K (b ∷ bs) i)) (sym (pow-succ' 2 (length bs)))
