@@ -1,7 +1,7 @@
 -- The basis of Lin, Chung and Han for polynomials: coefficient i goes with the product of the normalised subspace polynomials of the digits of i that are 1.
 use mathlib.Core.Path.{_≡_, refl, sym, ap, ap₂, _∙_, subst}
 use mathlib.Core.Logic.{_≢_, _↔_}
-use mathlib.Core.List.{List, [], _∷_, _++_}
+use mathlib.Core.List.{List, [], _∷_, _++_, map}
 use Prim.Native.Nat.{ℕ, zero, suc, _+_, _-_, _^_, _/_, _%_, _≤_, _<_}
 use native.Mathlib.Decide.{decLt}
 use native.Mathlib.Nat.{le-refl}
@@ -11,7 +11,7 @@ use lib.Seq.{take-at, drop-at, split-at, drop-cons, take-suc}
 use Rattle.field.specs.Laws.{Ops, IsField, ring, sums, ⊕-assoc, ⊕-0, 0-⊕, ⊕-⊗, 0-⊗, ⊗-0, ⊕-zero}
 use Rattle.lists.specs.All.{All, All-take, All-drop, All-at}
 use Rattle.poly.specs.Poly.{addP, scaleP, take-addP, drop-addP, take-scaleP, drop-scaleP}
-use Rattle.poly.specs.Span.{elem, vanish, Independent, bitOf, vanish-sum, vanish-zero, vanish-sym, vanish-coset, vanish-elem, vanish-next, vanish-snoc, elem-cons, elem-zero}
+use Rattle.poly.specs.Span.{elem, vanish, Independent, bitOf, vanish-sum, vanish-zero, vanish-sym, vanish-coset, vanish-elem, vanish-next, vanish-snoc, elem-cons, elem-zero, elem-map}
 
 module _ (K : Ops) (bs : List ℕ) where
   infixl 60 _⊕_
@@ -79,6 +79,10 @@ module _ {K : Ops} (F : IsField K) where
 
     pub image-zero : (j : ℕ) → image K bs j 0 ≡ 0
     image-zero j = ap (λ (t : ℕ). t ⊗ inv (step K bs j)) (vanish-zero F (take j bs)) ∙ 0-⊗ F (inv (step K bs j))
+
+    -- The images of a span are the span of the images
+    pub elem-image : (j : ℕ) (cs : List ℕ) (i : ℕ) → elem K (map (image K bs j) cs) i ≡ image K bs j (elem K cs i)
+    elem-image j cs i = elem-map F (image K bs j) (image-sum j) (image-zero j) cs i
 
     pub image-elem : (j r : ℕ) → r < 2 ^ j → image K bs j (elem K bs r) ≡ 0
     image-elem j r h = ap (λ (t : ℕ). t ⊗ inv (step K bs j)) (W-elem j r h) ∙ 0-⊗ F (inv (step K bs j))

@@ -1,7 +1,7 @@
 -- The additive Fourier transform of Lin, Chung and Han as functions of lists of numbers: from coefficients to the values on a coset, and back.
 use mathlib.Core.Path.{_≡_, refl, sym, ap, ap₂, _∙_}
 use mathlib.Core.List.{List, [], _∷_, _++_}
-use Prim.Native.Nat.{ℕ, zero, suc, _+_, _^_, _≤_, _<_}
+use Prim.Native.Nat.{ℕ, zero, suc, _+_, _-_, _^_, _≤_, _<_}
 use native.Mathlib.Nat.{suc-inj}
 use native.Mathlib.Omega.{arith}
 use lib.ListN.{length, take, drop, length-take, length-drop, length-append, take-append-drop}
@@ -37,6 +37,21 @@ module _ (K : Ops) (T : ℕ → ℕ → ℕ) where
   abbrev pub inverse : ℕ → (ℕ → ℕ) → List ℕ → List ℕ
   inverse zero v g = g
   inverse (suc j) v g = unfolded K (v j) (inverse j v (take (2 ^ j) g)) (inverse j (shifted j v) (drop (2 ^ j) g))
+
+-- ---- one layer, from the number of layers
+
+module _ (K : Ops) (T : ℕ → ℕ → ℕ) where
+  pub transform-layer : (m : ℕ) → 0 < m → (v : ℕ → ℕ) (d : List ℕ) → transform K T m v d
+      ≡ transform K T (m - 1) v (folded K (m - 1) (v (m - 1)) d) ++ transform K T (m - 1) (shifted K T (m - 1) v) (addP K (folded K (m - 1) (v (m - 1)) d) (drop (2 ^ (m - 1)) d))
+  transform-layer zero h v d = absurd (omega arith)
+  transform-layer (suc j) h v d =
+      ap (λ (t : ℕ). transform K T t v (folded K t (v t) d) ++ transform K T t (shifted K T t v) (addP K (folded K t (v t) d) (drop (2 ^ t) d))) {x = j} {y = suc j - 1} (omega arith)
+
+  pub inverse-layer : (m : ℕ) → 0 < m → (v : ℕ → ℕ) (g : List ℕ) → inverse K T m v g
+      ≡ unfolded K (v (m - 1)) (inverse K T (m - 1) v (take (2 ^ (m - 1)) g)) (inverse K T (m - 1) (shifted K T (m - 1) v) (drop (2 ^ (m - 1)) g))
+  inverse-layer zero h v g = absurd (omega arith)
+  inverse-layer (suc j) h v g =
+      ap (λ (t : ℕ). unfolded K (v t) (inverse K T t v (take (2 ^ t) g)) (inverse K T t (shifted K T t v) (drop (2 ^ t) g))) {x = j} {y = suc j - 1} (omega arith)
 
 -- ---- lengths
 
