@@ -13,3 +13,4 @@ pub mod Division
 pub mod Checks
 pub mod Ranges
 pub mod Euclid
+pub mod Calls
