@@ -14,3 +14,4 @@ pub mod Checks
 pub mod Ranges
 pub mod Euclid
 pub mod Calls
+pub mod Cases
