@@ -23,6 +23,9 @@ pub in-range : {m : ℕ} → 8 ≤ m → m < 131072 → OutOfRange m → ⊥
 in-range {m} l h (inl a) = omega arith
 in-range {m} l h (inr a) = omega arith
 
+pub not-less : {x y : ℕ} → (x < y → ⊥) → y ≤ x
+not-less {x} {y} f = omega (arith, f)
+
 -- what a modulus that passes is
 pub record GoodModulus (m : ℕ) : Type 0 where
   pub low : 8 ≤ m
@@ -34,9 +37,6 @@ modulus-passed m (inl a) = absurd (omega arith)
 modulus-passed m (inr (out, inl a)) = absurd (omega arith)
 modulus-passed m (inr (out, inr a)) =
     record { low = not-less (λ h. out (inl h)); high = omega (arith, not-less (λ h. out (inr h))); irreducible = irreducible-stable m (a .0) }
-  where
-    not-less : {x y : ℕ} → (x < y → ⊥) → y ≤ x
-    not-less {x} {y} f = omega (arith, f)
 
 -- f is the field of the modulus m, whose degree is 3 to 16
 pub record FieldOf (m : ℕ) (f : Field) : Type 0 where

@@ -34,10 +34,7 @@ fn irreducible(m: u32) -> bool
 pub fn modulus_refusal(m: u32) -> u8
     ensures { λ r. ⌜ Answers (modulusChecks m) r ⌝ }
 {
-    if m < 8 {
-        return 1;
-    }
-    if 131071 < m {
+    if m < 8 || 131071 < m {
         return 1;
     }
     if irreducible(m) {

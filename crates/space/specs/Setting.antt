@@ -23,10 +23,17 @@ use Rattle.space.specs.declared.Checked.{Checked}
 abbrev pub maxDim : ℕ
 maxDim = 12
 
+-- checks 3 and 4
+abbrev pub basisChecks : ℕ → List ℕ → Checks
+basisChecks m bs = (3, (length bs < 3) ⊎ (maxDim < length bs)) ∷ (4, (Below (2 ^ degree m) bs → ⊥)) ∷ []
+
+-- check 5
+abbrev pub spanChecks : ℕ → List ℕ → Checks
+spanChecks m bs = (5, (Independent (symbols m) bs → ⊥)) ∷ []
+
+-- checks 1 to 5
 abbrev pub settingChecks : ℕ → List ℕ → Checks
-settingChecks m bs =
-    modulusChecks m
-    ++ ((3, (length bs < 3) ⊎ (maxDim < length bs)) ∷ (4, (Below (2 ^ degree m) bs → ⊥)) ∷ (5, (Independent (symbols m) bs → ⊥)) ∷ [])
+settingChecks m bs = modulusChecks m ++ basisChecks m bs ++ spanChecks m bs
 
 -- ---- the tables of a basis; past its end each entry is 0
 
@@ -55,12 +62,15 @@ Tabled m bs t = (Independent (symbols m) bs × (t ≡ tablesOf (symbols m) bs)) 
 
 -- ---- the setting
 
+unfoldable pub paddedOf : List ℕ → List ℕ
+paddedOf bs = tab 16 (λ i. getD bs i 0)
+
 unfoldable pub settingOf : ℕ → List ℕ → Setting
 settingOf m bs =
     record {
       field = record { modulus = m; degree = degree m };
       space = record { k = length bs; images = imagesOf (symbols m) bs };
-      basis = tab 16 (λ i. getD bs i 0);
+      basis = paddedOf bs;
       steps = stepsOf (symbols m) bs;
       inverses = inversesOf (symbols m) bs;
     }
@@ -76,8 +86,13 @@ noSetting =
       inverses = zeros 16;
     }
 
--- the number of the first check that refuses, with no setting; or 0 and the setting
+-- 0 and the setting; or the number of the first check that refuses, and no setting
+abbrev pub SettledBy : Checks → ℕ → List ℕ → Checked → Type 0
+SettledBy cs m bs c = (Passes cs × (c .refusal ≡ 0) × (c .setting ≡ settingOf m bs)) ⊎ (Refuses cs (c .refusal) × (c .setting ≡ noSetting))
+
 abbrev pub Settled : ℕ → List ℕ → Checked → Type 0
-Settled m bs c =
-    (Passes (settingChecks m bs) × (c .refusal ≡ 0) × (c .setting ≡ settingOf m bs))
-    ⊎ (Refuses (settingChecks m bs) (c .refusal) × (c .setting ≡ noSetting))
+Settled m bs = SettledBy (settingChecks m bs) m bs
+
+-- the same past checks 1 to 4
+abbrev pub Made : ℕ → List ℕ → Checked → Type 0
+Made m bs = SettledBy (spanChecks m bs) m bs

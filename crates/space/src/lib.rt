@@ -11,7 +11,10 @@ ghost use lib.ListN.{length};
 ghost use Rattle.lists.specs.All.{Below};
 ghost use Rattle.field.specs.Binary.{degree, Irreducible};
 ghost use Rattle.field.specs.Products.{Sized};
-ghost use Rattle.space.specs.Setting.{Tabled, noTables};
+ghost use Rattle.field.specs.Checks.{modulusChecks};
+ghost use Rattle.lists.specs.Answers.{Answers};
+ghost use mathlib.Core.List.{_++_};
+ghost use Rattle.space.specs.Setting.{Tabled, noTables, noSetting, paddedOf, basisChecks, Made, Settled};
 
 // The largest dimension.
 pub const MAX: usize = 12;
@@ -82,4 +85,115 @@ fn tabulate(f: Field, basis: &[u16]) -> Tables
         steps,
         inverses,
     }
+}
+
+fn no_setting() -> Setting
+    ensures { λ r. ⌜ r ≡ noSetting ⌝ }
+{
+    Setting {
+        field: Field {
+            modulus: 0,
+            degree: 0,
+        },
+        space: Space {
+            k: 0,
+            images: [0u16; 192],
+        },
+        basis: [0u16; 16],
+        steps: [0u16; 16],
+        inverses: [0u16; 16],
+    }
+}
+
+fn refused(number: u8) -> Checked
+    ensures { λ r. ⌜ (r .refusal ≡ number) × (r .setting ≡ noSetting) ⌝ }
+{
+    Checked {
+        refusal: number,
+        setting: no_setting(),
+    }
+}
+
+// The basis, with zeros past its end.
+fn padded(basis: &[u16]) -> [u16; 16]
+    requires { ⌜ length (now basis) ≤ 12 ⌝ }
+    ensures { λ r. ⌜ r ≡ paddedOf (now (basis .entry)) ⌝ }
+{
+    let mut out = [0u16; 16];
+    let mut i = 0;
+    while i < basis.len() {
+        out[i] = basis[i];
+        i += 1;
+    }
+    out
+}
+
+// Checks 3 and 4 of a basis.
+fn basis_refusal(f: Field, basis: &[u16]) -> u8
+    requires { ⌜ Sized f ⌝ }
+    ensures { λ r. ⌜ Answers (basisChecks (f .modulus) (now (basis .entry))) r ⌝ }
+{
+    if basis.len() < 3 {
+        return 3;
+    }
+    if MAX < basis.len() {
+        return 3;
+    }
+    if field::modulus::all_symbols(f, basis) {
+        return 0;
+    }
+    4
+}
+
+// Checks 1 to 4 of a setting.
+fn refusal(modulus: u32, basis: &[u16]) -> u8
+    ensures { λ r. ⌜ Answers (modulusChecks modulus ++ basisChecks modulus (now (basis .entry))) r ⌝ }
+{
+    let n = field::modulus::modulus_refusal(modulus);
+    if n == 0 {
+        return basis_refusal(field::modulus::field_of(modulus), basis);
+    }
+    n
+}
+
+// The setting of a basis that passed checks 1 to 4: check 5.
+fn settle(f: Field, basis: &[u16]) -> Checked
+    requires { ⌜ Sized f × Irreducible (f .modulus) × (length (now basis) ≤ 12) × Below (2 ^ degree (f .modulus)) (now basis) ⌝ }
+    ensures { λ r. ⌜ Made (f .modulus) (now (basis .entry)) r ⌝ }
+{
+    let t = tabulate(f, basis);
+    let independent = t.independent;
+    let images = t.images;
+    let steps = t.steps;
+    let inverses = t.inverses;
+    if independent {
+        return Checked {
+            refusal: 0,
+            setting: Setting {
+                field: f,
+                space: Space {
+                    k: basis.len(),
+                    images,
+                },
+                basis: padded(basis),
+                steps,
+                inverses,
+            },
+        };
+    }
+    refused(5)
+}
+
+// A setting by its modulus and its basis: checks 1 to 5, then the setting.
+//
+// Ruled out: a dependent basis that is answered with a setting, since no setting has a step 0; a
+// number other than the first check's that refuses, as 2 for a modulus that check 1 refuses.
+pub fn check(modulus: u32, basis: &[u16]) -> Checked
+    ensures { λ r. ⌜ Settled modulus (now (basis .entry)) r ⌝ }
+{
+    let n = refusal(modulus, basis);
+    if n == 0 {
+        return settle(field::modulus::field_of(modulus), basis);
+    }
+    refused(n)
 }
