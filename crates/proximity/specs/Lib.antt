@@ -1,0 +1,7 @@
+-- The proof of proximity and its verifier, and what holds of them.
+pub mod Dim
+pub mod Tree
+pub mod Spaces
+pub mod Bivariate
+pub mod Proof
+pub mod Verifier
