@@ -5,3 +5,6 @@ pub mod Spaces
 pub mod Bivariate
 pub mod Proof
 pub mod Verifier
+pub mod Subspaces
+pub mod TwoVariables
+pub mod BaseDigits
