@@ -8,3 +8,6 @@ pub mod Verifier
 pub mod Subspaces
 pub mod TwoVariables
 pub mod BaseDigits
+pub mod Proposition
+pub mod Grid
+pub mod Layout
