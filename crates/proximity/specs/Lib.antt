@@ -11,3 +11,6 @@ pub mod BaseDigits
 pub mod Proposition
 pub mod Grid
 pub mod Layout
+pub mod Lines
+pub mod Honest
+pub mod AllCoins
