@@ -14,3 +14,4 @@ pub mod Layout
 pub mod Lines
 pub mod Honest
 pub mod AllCoins
+pub mod Reads
