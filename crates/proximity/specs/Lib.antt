@@ -15,3 +15,6 @@ pub mod Lines
 pub mod Honest
 pub mod AllCoins
 pub mod Reads
+pub mod Verdict
+pub mod Blocks
+pub mod Prover
