@@ -1,10 +1,11 @@
 -- Entries of a list: which are among it, tables and images of it, and lists without repeats. Assumes nothing.
-use mathlib.Core.Path.{_≡_, refl, sym, ap, ap₂, _∙_}
+use mathlib.Core.Path.{_≡_, refl, sym, ap, ap₂, _∙_, subst}
 use mathlib.Core.Logic.{_⊎_, inl, inr}
 use mathlib.Core.List.{List, [], _∷_, map, List·Memᴰ, List·Memᴰ·head, List·Memᴰ·tail, List·Memᴰ·not-nil, List·Memᴰ·cases-cons}
 use Prim.Native.Nat.{ℕ, zero, suc, _<_}
 use native.Mathlib.Omega.{arith}
 use lib.ListN.{length, getD, length-map}
+use Rattle.lists.specs.All.{All}
 use Rattle.lists.specs.Tables.{tab, length-tab, getD-tab}
 
 module _ {A : Type 0} where
@@ -64,3 +65,12 @@ no-repeat-map f (x ∷ xs) inj n i j d hi hj e =
     n i j x hi′ hj′
     (inj (getD (x ∷ xs) i x) (getD (x ∷ xs) j x) (among-at (x ∷ xs) i x hi′) (among-at (x ∷ xs) j x hj′)
     (sym (getD-map-in f (x ∷ xs) i x d hi′) ∙ e ∙ getD-map-in f (x ∷ xs) j x d hj′))
+
+-- What holds of each image holds of the image of an entry
+pub All-image : {A : Type 0} (P : ℕ → Type 0) (f : A → ℕ) (xs : List A) (x : A) → All P (map f xs) → Among x xs → P (f x)
+All-image P f [] x h m = absurd (List·Memᴰ·not-nil m)
+All-image {A} P f (y ∷ xs) x h m = by (List·Memᴰ·cases-cons m) (All-image P f xs x (h .1))
+  where
+    by : (x ≡ y) ⊎ Among x xs → (Among x xs → P (f x)) → P (f x)
+    by (inl e) ih = subst (λ (z : A). P (f z)) (sym e) (h .0)
+    by (inr t) ih = ih t

@@ -12,15 +12,9 @@ use lib.Seq.{ext-getD}
 use Rattle.lists.specs.Pick.{pick, pick-true, pick-false}
 use Rattle.lists.specs.Tables.{part, part-fits, length-part, getD-part, getD-insert, getD-insert-before, getD-insert-after}
 use Rattle.proximity.specs.Dim.{half, colDim}
-use Rattle.proximity.specs.Proof.{slot, row}
+use Rattle.proximity.specs.Proof.{slot, row, block}
 use Rattle.proximity.specs.Subspaces.{pow-rows, pow-eight}
 use Rattle.proximity.specs.Layout.{length-row, length-block, slot-inside}
-
--- Block j of row r: the word's block r at the slot, else one of the seven stored blocks
-abbrev pub block : ℕ → List ℕ → List ℕ → ℕ → ℕ → List ℕ
-block k w π r j =
-    pick (ltb j (slot r)) (part (2 ^ half k) (7 * r + j) π)
-    (pick (ltb (slot r) j) (part (2 ^ half k) (7 * r + (j - 1)) π) (part (2 ^ half k) r w))
 
 module _ (k : ℕ) (w π : List ℕ) (r j : ℕ) where
   pub block-before : j < slot r → block k w π r j ≡ part (2 ^ half k) (7 * r + j) π

@@ -18,3 +18,5 @@ pub mod Reads
 pub mod Verdict
 pub mod Blocks
 pub mod Prover
+pub mod NoRepeats
+pub mod Coverage

@@ -3,8 +3,10 @@
 use mathlib.Core.Path.{_≡_}
 use mathlib.Core.List.{List, [], _++_}
 use Prim.Native.Nat.{ℕ, _+_, _*_, _^_, _-_, min}
+use lib.Dec.{ltb}
 use lib.ListN.{length, getD, drop}
 use Rattle.lists.specs.All.{All}
+use Rattle.lists.specs.Pick.{pick}
 use Rattle.lists.specs.Tables.{tab, flat, part, insert, without}
 use Rattle.field.specs.Laws.{Ops}
 use Rattle.poly.specs.Span.{elem}
@@ -22,6 +24,12 @@ slot r = min r 4
 -- Row r: its seven stored blocks of 2^h symbols, and at its slot the word's positions r × 2^h onward
 abbrev pub row : ℕ → List ℕ → List ℕ → ℕ → List ℕ
 row k w π r = insert (slot r * 2 ^ half k) (part (2 ^ half k) r w) (part (7 * 2 ^ half k) r π)
+
+-- Block j of row r: the word's block r at the slot, else one of the seven stored blocks
+abbrev pub block : ℕ → List ℕ → List ℕ → ℕ → ℕ → List ℕ
+block k w π r j =
+    pick (ltb j (slot r)) (part (2 ^ half k) (7 * r + j) π)
+    (pick (ltb (slot r) j) (part (2 ^ half k) (7 * r + (j - 1)) π) (part (2 ^ half k) r w))
 
 -- Column a: position r of it is position a of row r
 abbrev pub column : ℕ → List ℕ → List ℕ → ℕ → List ℕ
