@@ -2,7 +2,7 @@
 use mathlib.Core.Path.{_≡_, refl, sym, subst₂}
 use mathlib.Core.Logic.{_↔_}
 use mathlib.Core.List.{List, [], _∷_}
-use Prim.Native.Nat.{ℕ, _+_, _*_, _^_, _≤_, _<_, max}
+use Prim.Native.Nat.{ℕ, _+_, _^_, _≤_, _<_, max}
 use native.Mathlib.Nat.{suc-ne-zero}
 use native.Mathlib.Decide.{decLt}
 use native.Mathlib.Omega.{arith}
@@ -11,10 +11,10 @@ use lib.Pow.{pow-pos}
 use Rattle.lists.specs.Tables.{length-tab}
 use Rattle.field.specs.Laws.{Ops, IsField}
 use Rattle.poly.specs.Codeword.{Basis}
-use Rattle.proximity.specs.Dim.{half, rowDim, colDim, Dim, leaf, node, size, coinBits, dim, S, R}
+use Rattle.proximity.specs.Dim.{half, rowDim, colDim, Dim, leaf, node, size, coinBits}
 use Rattle.proximity.specs.Spaces.{rowBasis, colBasis}
 use Rattle.proximity.specs.Proof.{row, column, rowProof, colProof, Honest}
-use Rattle.proximity.specs.Verifier.{Line, Row, Column, byLine, Accepts}
+use Rattle.proximity.specs.Verifier.{Line, byLine, Accepts}
 use Rattle.proximity.specs.Subspaces.{row-basis, col-basis}
 use Rattle.proximity.specs.Layout.{length-row, length-rowProof, length-colProof}
 use Rattle.proximity.specs.Lines.{line-cases, rowCoin, colCoin, row-taken, column-taken, rowCoin-lt, colCoin-lt}

@@ -1,7 +1,7 @@
 -- The digits of P to a monic base q are the Q with P(x) = Q(x, q(x)).
 use mathlib.Core.Path.{_≡_, refl, sym, ap, ap₂, _∙_, subst}
-use mathlib.Core.List.{List, [], _∷_, _++_, map}
-use Prim.Native.Nat.{ℕ, zero, suc, _+_, _*_, _-_, _≤_, _<_}
+use mathlib.Core.List.{List, [], _∷_}
+use Prim.Native.Nat.{ℕ, zero, suc, _*_, _-_, _≤_, _<_}
 use native.Mathlib.Nat.{suc-inj, suc-ne-zero, suc-mul, zero-mul}
 use native.Mathlib.Decide.{decLt}
 use native.Mathlib.Omega.{arith}
@@ -9,7 +9,7 @@ use lib.ListN.{length, getD, replicate, length-replicate, List·getD-eq-default}
 use Rattle.lists.specs.All.{All, IsZero, All-replicate}
 use Rattle.field.specs.Laws.{Ops, IsField, ring, 0-⊕, ⊕-0, 0-⊗, ⊗-0}
 use Rattle.poly.specs.Poly.{eval, addP, scaleP, addP-sym, scaleP-sym, eval-zeros, length-addP, length-scaleP}
-use Rattle.proximity.specs.Bivariate.{front, final, reduce, shift, digits, atX, eval2}
+use Rattle.proximity.specs.Bivariate.{front, final, reduce, shift, digits, eval2}
 use Rattle.proximity.specs.TwoVariables.{Digits, evalMonic}
 
 -- The entries from d on are 0

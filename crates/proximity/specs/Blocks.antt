@@ -6,10 +6,9 @@ use native.Mathlib.Nat.{mul-le-mul-right, add-mul}
 use native.Mathlib.Decide.{decLt}
 use native.Mathlib.Omega.{arith}
 use borrow.Author.Tests.{lt-ltb, le-ltb}
-use lib.Dec.{ltb}
 use lib.ListN.{length, getD}
 use lib.Seq.{ext-getD}
-use Rattle.lists.specs.Pick.{pick, pick-true, pick-false}
+use Rattle.lists.specs.Pick.{pick-true, pick-false}
 use Rattle.lists.specs.Tables.{part, part-fits, length-part, getD-part, getD-insert, getD-insert-before, getD-insert-after}
 use Rattle.proximity.specs.Dim.{half, colDim}
 use Rattle.proximity.specs.Proof.{slot, row, block}

@@ -5,7 +5,7 @@ use mathlib.Core.List.{List, map, Memᴰ·map}
 use Prim.Native.Nat.{ℕ, zero, suc, _+_, _*_, _^_, _-_, _≤_, _<_, max}
 use native.Mathlib.Decide.{decLt}
 use native.Mathlib.Omega.{arith}
-use lib.ListN.{length, getD}
+use lib.ListN.{length}
 use lib.Pow.{pow-pos}
 use Rattle.lists.specs.All.{All, All-of}
 use Rattle.lists.specs.Members.{Among, among-tab, All-image}
@@ -38,8 +38,7 @@ module _ {k : ℕ} (s : 7 ≤ k) (rows : Dim (rowDim k)) (cols : Dim (colDim k))
 
   through-row : (r : ℕ) → r < 2 ^ colDim k → (p : Place) → Read rows p → Read d (rowPlace k (size rows) r p)
   through-row r hr p (i, hi, m) =
-      let e = row-taken k r i hr in
-      (
+      let e = row-taken k r i hr in (
         rowCoin k r i,
         rowCoin-lt k (max (colDim k + coinBits rows) (half k + 2 + coinBits cols)) (coinBits rows) hr hi (omega arith),
         subst₂ (λ (l : Line) (i : ℕ). Among (rowPlace k (size rows) r p) (placesAt l i)) (sym (e .0)) (sym (e .1)) (Memᴰ·map (rowPlace k (size rows) r) m),
@@ -47,8 +46,7 @@ module _ {k : ℕ} (s : 7 ≤ k) (rows : Dim (rowDim k)) (cols : Dim (colDim k))
 
   through-col : (a : ℕ) → a < 2 ^ (half k + 2) → (p : Place) → Read cols p → Read d (colPlace k (size rows) (size cols) a p)
   through-col a ha p (i, hi, m) =
-      let e = column-taken k a i ha in
-      (
+      let e = column-taken k a i ha in (
         colCoin k a i,
         colCoin-lt k (max (colDim k + coinBits rows) (half k + 2 + coinBits cols)) (coinBits cols) ha hi (omega arith),
         subst₂ (λ (l : Line) (i : ℕ). Among (colPlace k (size rows) (size cols) a p) (placesAt l i)) (sym (e .0)) (sym (e .1)) (Memᴰ·map (colPlace k (size rows) (size cols) a) m),

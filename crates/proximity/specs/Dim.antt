@@ -1,5 +1,4 @@
 -- The dimensions of a space, of its rows and of its columns; the length S of a proof and the number R of coin bits. Definitions only.
-use mathlib.Core.Path.{_≡_}
 use Prim.Native.Nat.{ℕ, zero, suc, _+_, _*_, _^_, _-_, _/_, _≤_, max}
 use native.Mathlib.Decide.{decLe}
 use native.Mathlib.Omega.{arith}

@@ -1,29 +1,28 @@
 -- Q(x, y) from rows and columns that agree where they meet.
-use mathlib.Core.Path.{_≡_, refl, sym, ap, ap₂, _∙_, subst}
-use mathlib.Core.List.{List, [], _∷_}
-use Prim.Native.Nat.{ℕ, zero, suc, _+_, _*_, _^_, _-_, _≤_, _<_}
+use mathlib.Core.Path.{_≡_, sym, ap, _∙_}
+use mathlib.Core.List.{List}
+use Prim.Native.Nat.{ℕ, _+_, _*_, _^_, _≤_, _<_}
 use native.Mathlib.Omega.{arith}
-use lib.ListN.{length, getD, take, drop}
-use lib.Seq.{length-take-le}
-use lib.Pow.{pow-add, pow-pos, pow-mono}
-use Rattle.lists.specs.All.{All, All-take, All-at}
+use lib.ListN.{length, getD}
+use lib.Pow.{pow-mono}
+use Rattle.lists.specs.All.{All, All-at}
 use Rattle.lists.specs.Tables.{tab, length-tab, tab-ext, tab-of}
 use Rattle.field.specs.Laws.{Ops, IsField}
 use Rattle.poly.specs.Poly.{Distinct, eval, eval-unique}
-use Rattle.poly.specs.Span.{elem, elem-sym, elem-zero, vanish, productTo}
+use Rattle.poly.specs.Span.{elem}
 use Rattle.poly.specs.Interpolate.{Through, interpolate}
 use Rattle.poly.specs.Codeword.{Basis, basis-distinct}
 use Rattle.proximity.specs.Dim.{half, colDim}
-use Rattle.proximity.specs.Spaces.{q, β, colBasis}
-use Rattle.proximity.specs.Bivariate.{atX, atY, eval2, wide, qCoeffs, bivariate}
+use Rattle.proximity.specs.Spaces.{q, β}
+use Rattle.proximity.specs.Bivariate.{atX, atY, wide}
 use Rattle.proximity.specs.Proof.{heightOf}
-use Rattle.proximity.specs.Subspaces.{pow-rows, pow-four, block-lt, col-basis, col-elem, q-coset, inside}
-use Rattle.proximity.specs.TwoVariables.{Digits, evalMonic, compose, length-monic, monic-sym, eval-monic, length-compose, compose-sym, eval-compose, length-atX, length-atY, atX-sym, atY-sym, eval-atY, atX-tab, digits-tab, digits-ext}
-use Rattle.proximity.specs.BaseDigits.{length-digits, digits-digits, eval-digits}
+use Rattle.proximity.specs.Subspaces.{pow-four}
+use Rattle.proximity.specs.TwoVariables.{Digits, length-atX, length-atY, atX-sym, atY-sym, eval-atY, atX-tab, digits-tab}
 use Rattle.proximity.specs.Proposition.{elem-field, height-sym, same-column}
 
 module _ {K : Ops} (F : IsField K) (k : ℕ) (b : List ℕ) (s : 7 ≤ k) (B : Basis K k b) where
   open Ops K using (Sym)
+
   -- ---- Q from rows and columns that agree where they meet
 
   -- Row r is Q(x, q(β)) and column a is Q(element a, y)

@@ -1,5 +1,5 @@
 -- The rows and columns of the word and proof of a polynomial are words with proofs of one polynomial each, and the other way round.
-use mathlib.Core.Path.{_≡_, refl, sym, ap, ap₂, _∙_}
+use mathlib.Core.Path.{_≡_, sym, ap, ap₂, _∙_}
 use mathlib.Core.List.{List, _++_}
 use Prim.Native.Nat.{ℕ, _+_, _*_, _^_, _-_, _≤_, _<_}
 use native.Mathlib.Omega.{arith}
@@ -12,7 +12,7 @@ use Rattle.field.specs.Laws.{Ops, IsField}
 use Rattle.poly.specs.Poly.{eval}
 use Rattle.poly.specs.Span.{elem}
 use Rattle.poly.specs.Codeword.{Basis, wordOf, Codeword}
-use Rattle.proximity.specs.Dim.{half, rowDim, colDim, Dim, leaf, node, size}
+use Rattle.proximity.specs.Dim.{half, rowDim, colDim, Dim, node, size}
 use Rattle.proximity.specs.Spaces.{rowBasis, colBasis}
 use Rattle.proximity.specs.Bivariate.{eval2, bivariate}
 use Rattle.proximity.specs.Proof.{slot, row, column, rowProof, colProof, heightOf, rowPoly, colPoly, stored, proofOf, Honest}
@@ -202,4 +202,3 @@ module _ {K : Ops} (F : IsField K) {k : ℕ} (s : 7 ≤ k) (rows : Dim (rowDim k
         proof = whole-proof;
       },
     )
-

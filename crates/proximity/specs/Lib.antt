@@ -20,3 +20,5 @@ pub mod Blocks
 pub mod Prover
 pub mod NoRepeats
 pub mod Coverage
+pub mod Steps
+pub mod Cases

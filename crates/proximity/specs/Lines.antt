@@ -1,5 +1,5 @@
 -- The line that a coin takes: it is a row or a column of the space, and each is taken by some coin.
-use mathlib.Core.Path.{_≡_, refl, sym, ap, _∙_}
+use mathlib.Core.Path.{_≡_, ap, _∙_}
 use mathlib.Core.Bool.{Bool, true, false}
 use Prim.Native.Nat.{ℕ, _+_, _*_, _^_, _/_, _%_, _≤_, _<_}
 use native.Mathlib.Nat.{mod-lt}
@@ -41,8 +41,7 @@ colCoin k a i = 2 * (i * 2 ^ (half k + 2) + a) + 1
 pub row-taken : (k r i : ℕ) → r < 2 ^ colDim k → (lineOf k (rowCoin k r i) ≡ Row r) × (bitsLeft k (rowCoin k r i) ≡ i)
 row-taken k r i h =
     let e = even-row k (rowCoin k r i) (omega arith) in
-    let v : rowCoin k r i / 2 ≡ i * 2 ^ colDim k + r = omega arith in
-    (
+    let v : rowCoin k r i / 2 ≡ i * 2 ^ colDim k + r = omega arith in (
       e .0 ∙ ap Row (ap (λ (x : ℕ). x % 2 ^ colDim k) v ∙ digits-mod i h),
       e .1 ∙ ap (λ (x : ℕ). x / 2 ^ colDim k) v ∙ digits-div i h,
     )
@@ -50,8 +49,7 @@ row-taken k r i h =
 pub column-taken : (k a i : ℕ) → a < 2 ^ (half k + 2) → (lineOf k (colCoin k a i) ≡ Column a) × (bitsLeft k (colCoin k a i) ≡ i)
 column-taken k a i h =
     let e = odd-column k (colCoin k a i) (omega arith) in
-    let v : colCoin k a i / 2 ≡ i * 2 ^ (half k + 2) + a = omega arith in
-    (
+    let v : colCoin k a i / 2 ≡ i * 2 ^ (half k + 2) + a = omega arith in (
       e .0 ∙ ap Column (ap (λ (x : ℕ). x % 2 ^ (half k + 2)) v ∙ digits-mod i h),
       e .1 ∙ ap (λ (x : ℕ). x / 2 ^ (half k + 2)) v ∙ digits-div i h,
     )

@@ -1,16 +1,14 @@
 -- No position is read twice: a coin reads as many symbols as its list of positions is long.
 use mathlib.Core.Path.{_≡_, sym, ap, _∙_, subst}
-use mathlib.Core.List.{List, map}
+use mathlib.Core.List.{map}
 use Prim.Native.Nat.{ℕ, _+_, _*_, _^_, _-_, _/_, _≤_, _<_}
 use native.Mathlib.Omega.{arith}
 use lib.Arith.{digits-div}
-use lib.ListN.{length}
-use Rattle.lists.specs.Members.{Among, NoRepeat, no-repeat-tab, no-repeat-map}
+use Rattle.lists.specs.Members.{NoRepeat, no-repeat-tab, no-repeat-map}
 use Rattle.proximity.specs.Dim.{half, rowDim, colDim, Dim, leaf, node, size}
 use Rattle.proximity.specs.Proof.{slot}
-use Rattle.proximity.specs.Verifier.{Line, byLine, Place, inWord, inProof, cell, rowPlace, colPlace, positions}
+use Rattle.proximity.specs.Verifier.{byLine, Place, inWord, inProof, cell, rowPlace, colPlace, positions}
 use Rattle.proximity.specs.Subspaces.{pow-four, pow-eight}
-use Rattle.proximity.specs.Layout.{slot-fits}
 use Rattle.proximity.specs.Lines.{line-cases}
 use Rattle.proximity.specs.Reads.{Inside, cell-cases, cell-inside, positions-inside}
 

@@ -11,7 +11,7 @@ use Rattle.lists.specs.Tables.{tab, flat, part, insert, without}
 use Rattle.field.specs.Laws.{Ops}
 use Rattle.poly.specs.Span.{elem}
 use Rattle.poly.specs.Codeword.{wordOf}
-use Rattle.proximity.specs.Dim.{half, rowDim, colDim, Dim, leaf, node, size}
+use Rattle.proximity.specs.Dim.{half, rowDim, colDim, Dim, leaf, node}
 use Rattle.proximity.specs.Spaces.{q, β, rowBasis, colBasis}
 use Rattle.proximity.specs.Bivariate.{atX, atY, bivariate}
 

@@ -1,24 +1,22 @@
 -- Proposition 6.2 of document 000: Q(x, y) with P(x) = Q(x, q(x)), degree in x below 2^h and in y below 2^(c-3), exists and is the only one.
-use mathlib.Core.Path.{_≡_, refl, sym, ap, ap₂, _∙_, subst}
-use mathlib.Core.List.{List, [], _∷_}
-use Prim.Native.Nat.{ℕ, zero, suc, _+_, _*_, _^_, _-_, _≤_, _<_}
+use mathlib.Core.Path.{_≡_, sym, ap, ap₂, _∙_, subst}
+use mathlib.Core.List.{List}
+use Prim.Native.Nat.{ℕ, suc, _+_, _*_, _^_, _-_, _≤_, _<_}
 use native.Mathlib.Omega.{arith}
-use lib.ListN.{length, getD, take, drop}
+use lib.ListN.{length, take}
 use lib.Seq.{length-take-le}
 use lib.Pow.{pow-add, pow-pos, pow-mono}
-use Rattle.lists.specs.All.{All, All-take, All-at}
-use Rattle.lists.specs.Tables.{tab, length-tab, tab-ext, tab-of}
+use Rattle.lists.specs.All.{All, All-take}
 use Rattle.field.specs.Laws.{Ops, IsField}
 use Rattle.poly.specs.Poly.{Distinct, eval, eval-unique}
-use Rattle.poly.specs.Span.{elem, elem-sym, elem-zero, vanish, productTo}
-use Rattle.poly.specs.Interpolate.{Through, interpolate}
+use Rattle.poly.specs.Span.{elem, elem-sym, vanish, productTo}
 use Rattle.poly.specs.Codeword.{Basis, basis-distinct}
 use Rattle.proximity.specs.Dim.{half, colDim}
-use Rattle.proximity.specs.Spaces.{q, β, colBasis}
+use Rattle.proximity.specs.Spaces.{q, colBasis}
 use Rattle.proximity.specs.Bivariate.{atX, atY, eval2, wide, monic, qCoeffs, bivariate}
 use Rattle.proximity.specs.Proof.{heightOf}
-use Rattle.proximity.specs.Subspaces.{pow-rows, pow-four, block-lt, col-basis, col-elem, q-coset, inside}
-use Rattle.proximity.specs.TwoVariables.{Digits, evalMonic, compose, length-monic, monic-sym, eval-monic, length-compose, compose-sym, eval-compose, length-atX, length-atY, atX-sym, atY-sym, eval-atY, atX-tab, digits-tab, digits-ext}
+use Rattle.proximity.specs.Subspaces.{pow-rows, block-lt, col-basis, col-elem, q-coset, inside}
+use Rattle.proximity.specs.TwoVariables.{Digits, evalMonic, compose, length-monic, monic-sym, eval-monic, length-compose, compose-sym, eval-compose, length-atX, length-atY, atX-sym, atY-sym, eval-atY, digits-ext}
 use Rattle.proximity.specs.BaseDigits.{length-digits, digits-digits, eval-digits}
 
 pub pow-coeffs : (k : ℕ) → 7 ≤ k → 2 ^ (k - 3) ≡ wide k * 2 ^ half k
@@ -26,6 +24,7 @@ pow-coeffs k s = ap (λ (t : ℕ). 2 ^ t) {x = k - 3} {y = (colDim k - 3) + half
 
 module _ {K : Ops} (F : IsField K) (k : ℕ) (b : List ℕ) (s : 7 ≤ k) (B : Basis K k b) where
   open Ops K using (Sym)
+
   pub elem-field : (i : ℕ) → Sym (elem K b i)
   elem-field i = elem-sym F b i (B .elements)
 
@@ -127,8 +126,8 @@ module _ {K : Ops} (F : IsField K) (k : ℕ) (b : List ℕ) (s : 7 ≤ k) (B : B
   proposition P e sP = (
     record { below-x = bivariate-digits P sP; below-y = length-bivariate P; values = eval-bivariate P e sP },
     λ Q H.
-    bivariate-unique Q (bivariate K k b P) (H .below-y) (length-bivariate P) (H .below-x) (bivariate-digits P sP)
-    (λ i h. sym (H .values (elem K b i) (elem-field i)) ∙ eval-bivariate P e sP (elem K b i) (elem-field i)),
+        bivariate-unique Q (bivariate K k b P) (H .below-y) (length-bivariate P) (H .below-x) (bivariate-digits P sP)
+        (λ i h. sym (H .values (elem K b i) (elem-field i)) ∙ eval-bivariate P e sP (elem K b i) (elem-field i)),
   )
 
   -- ---- from Q back to P
@@ -151,4 +150,3 @@ module _ {K : Ops} (F : IsField K) (k : ℕ) (b : List ℕ) (s : 7 ≤ k) (B : B
     bivariate-univariate =
         bivariate-unique (bivariate K k b univariate) Q (length-bivariate univariate) l (bivariate-digits univariate univariate-sym) g
         (λ i h. sym (eval-bivariate univariate length-univariate univariate-sym (elem K b i) (elem-field i)) ∙ eval-univariate (elem K b i) (elem-field i))
-

@@ -1,5 +1,5 @@
 -- The positions of a coin lie inside the word and the proof, there are at most 64, and the verdict follows from the symbols there.
-use mathlib.Core.Path.{_≡_, refl, sym, ap, _∙_, subst}
+use mathlib.Core.Path.{_≡_, sym, ap, _∙_, subst}
 use mathlib.Core.List.{List, map, Memᴰ·of-map}
 use Prim.Native.Nat.{ℕ, _+_, _*_, _^_, _-_, _≤_, _<_}
 use native.Mathlib.Decide.{decLt}
@@ -9,14 +9,14 @@ use lib.ListN.{length, getD, drop, length-map}
 use lib.Seq.{getD-drop}
 use lib.Pow.{pow-mono}
 use Rattle.lists.specs.Members.{Among, of-among-tab, map-tab, map-through}
-use Rattle.lists.specs.Pick.{pick, pick-true, pick-false}
+use Rattle.lists.specs.Pick.{pick-true, pick-false}
 use Rattle.lists.specs.Tables.{part, part-fits, length-tab, getD-tab, tab-of, getD-part, getD-insert, getD-insert-before, getD-insert-after}
 use Rattle.field.specs.Laws.{Ops}
 use Rattle.poly.specs.Codeword.{Codeword}
 use Rattle.proximity.specs.Dim.{half, rowDim, colDim, Dim, leaf, node, size}
 use Rattle.proximity.specs.Spaces.{rowBasis, colBasis}
 use Rattle.proximity.specs.Proof.{slot, row, column, rowProof, colProof}
-use Rattle.proximity.specs.Verifier.{Line, Row, Column, lineOf, bitsLeft, byLine, Accepts, Place, inWord, inProof, cell, rowPlace, colPlace, positions, readAt}
+use Rattle.proximity.specs.Verifier.{lineOf, bitsLeft, byLine, Accepts, Place, inWord, inProof, cell, rowPlace, colPlace, positions, readAt}
 use Rattle.proximity.specs.Subspaces.{pow-rows, pow-four, pow-eight}
 use Rattle.proximity.specs.Layout.{seven, slot-fits, length-row, length-block, slot-inside, length-rowProof, length-colProof}
 use Rattle.proximity.specs.Lines.{line-cases}

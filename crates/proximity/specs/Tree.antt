@@ -1,5 +1,5 @@
 -- A dimension is one in one way, so S and R follow the recurrences; their tables.
-use mathlib.Core.Path.{_≡_, refl, ap, _∙_}
+use mathlib.Core.Path.{_≡_, refl, ap}
 use mathlib.Core.List.{List, [], _∷_}
 use Prim.Native.Nat.{ℕ, _+_, _*_, _^_, _≤_, max}
 use native.Mathlib.Bridge.{le-prop}

@@ -3,18 +3,16 @@ use mathlib.Core.Path.{_≡_, sym, subst, transport}
 use mathlib.Core.Logic.{_↔_}
 use mathlib.Core.List.{List, map}
 use Prim.Native.Nat.{ℕ, _^_, _-_, _<_}
-use native.Mathlib.Omega.{arith}
 use lib.ListN.{length, getD}
 use Rattle.lists.specs.All.{All}
 use Rattle.lists.specs.Tables.{All-tab}
 use Rattle.field.specs.Laws.{Ops, IsField}
 use Rattle.poly.specs.Poly.{eval, eval-sym}
 use Rattle.poly.specs.Span.{elem, elem-sym}
-use Rattle.poly.specs.Interpolate.{Through}
 use Rattle.poly.specs.Codeword.{Basis, wordOf, Codeword, first, codeword-iff}
 use Rattle.proximity.specs.Dim.{Dim, leaf, node, size}
 use Rattle.proximity.specs.Spaces.{rowBasis, colBasis}
-use Rattle.proximity.specs.Verifier.{Line, byLine, Accepts, positions, readAt}
+use Rattle.proximity.specs.Verifier.{byLine, Accepts, positions, readAt}
 use Rattle.proximity.specs.Subspaces.{row-basis, col-basis}
 use Rattle.proximity.specs.Lines.{line-cases}
 use Rattle.proximity.specs.Reads.{leafDim, leafBasis, reads}
