@@ -1,0 +1,24 @@
+-- The proof of proximity and its verifier, and what holds of them.
+pub mod Dim
+pub mod Tree
+pub mod Spaces
+pub mod Bivariate
+pub mod Proof
+pub mod Verifier
+pub mod Subspaces
+pub mod TwoVariables
+pub mod BaseDigits
+pub mod Proposition
+pub mod Grid
+pub mod Layout
+pub mod Lines
+pub mod Honest
+pub mod AllCoins
+pub mod Reads
+pub mod Verdict
+pub mod Blocks
+pub mod Prover
+pub mod NoRepeats
+pub mod Coverage
+pub mod Steps
+pub mod Cases
