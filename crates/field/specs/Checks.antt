@@ -1,5 +1,5 @@
 -- Checks 1 and 2, of a modulus, and what a field made from it is.
-use mathlib.Core.Path.{_≡_}
+use mathlib.Core.Path.{_≡_, refl}
 use mathlib.Core.Logic.{_⊎_, inl, inr}
 use mathlib.Core.List.{[], _∷_}
 use Prim.Native.Nat.{ℕ, _^_, _≤_, _<_}
@@ -37,6 +37,9 @@ modulus-passed m (inl a) = absurd (omega arith)
 modulus-passed m (inr (out, inl a)) = absurd (omega arith)
 modulus-passed m (inr (out, inr a)) =
     record { low = not-less (λ h. out (inl h)); high = omega (arith, not-less (λ h. out (inr h))); irreducible = irreducible-stable m (a .0) }
+
+pub good-passes : (m : ℕ) → GoodModulus m → Passes (modulusChecks m)
+good-passes m g = inr (in-range (g .low) (g .high), inr ((λ f. f (g .irreducible)), refl))
 
 -- f is the field of the modulus m, whose degree is 3 to 16
 pub record FieldOf (m : ℕ) (f : Field) : Type 0 where

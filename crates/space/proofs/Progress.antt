@@ -32,10 +32,10 @@ zeros-at zero j = refl
 zeros-at (suc n) zero = refl
 zeros-at (suc n) (suc j) = zeros-at n j
 
-upto-none : (n : ℕ) (f : ℕ → ℕ) → Upto n 0 f (replicate n 0)
+pub upto-none : (n : ℕ) (f : ℕ → ℕ) → Upto n 0 f (replicate n 0)
 upto-none n f = record { count = length-replicate {A = ℕ} n 0; done = λ j h k. absurd (omega arith); left = λ j h. zeros-at n j }
 
-upto-next : {n i : ℕ} {f : ℕ → ℕ} {xs : List ℕ} (x : ℕ) → i < n → x ≡ f i → Upto n i f xs → Upto n (i + 1) f (set xs i x)
+pub upto-next : {n i : ℕ} {f : ℕ → ℕ} {xs : List ℕ} (x : ℕ) → i < n → x ≡ f i → Upto n i f xs → Upto n (i + 1) f (set xs i x)
 upto-next {n} {i} {f} {xs} x h e u =
     record {
       count = length-set xs i x ∙ u .count;
@@ -48,7 +48,7 @@ upto-next {n} {i} {f} {xs} x h e u =
     at j k l (no q) = getD-set-other xs i j x 0 q ∙ u .done j (omega arith) l
 
 -- from i on f is 0
-upto-all : {n i : ℕ} {f : ℕ → ℕ} {xs : List ℕ} → ((j : ℕ) → i ≤ j → j < n → f j ≡ 0) → Upto n i f xs → xs ≡ tab n f
+pub upto-all : {n i : ℕ} {f : ℕ → ℕ} {xs : List ℕ} → ((j : ℕ) → i ≤ j → j < n → f j ≡ 0) → Upto n i f xs → xs ≡ tab n f
 upto-all {n} {i} {f} {xs} z u =
     ext-getD 0 xs (tab n f) (u .count ∙ sym (length-tab n f))
     (λ j h. let l : j < n = omega (arith, u .count) in at j l (decLt j i) ∙ sym (getD-tab n f j 0 l))
