@@ -1,7 +1,7 @@
 -- The test `irreducible?` decides `Irreducible`. Assumes nothing.
-use mathlib.Core.Path.{_≡_, sym, ap, _∙_, subst}
+use mathlib.Core.Path.{_≡_, refl, sym, ap, _∙_, subst}
 use mathlib.Core.Logic.{_⊎_, inl, inr, ⊎-elim, _↔_}
-use mathlib.Core.Bool.{Bool, not}
+use mathlib.Core.Bool.{Bool, true, false, not}
 use Prim.Native.Nat.{ℕ, zero, suc, _+_, _-_, _/_, _^_, _≤_, _<_}
 use native.Mathlib.Nat.{le-refl, lt-of-lt-of-le, eq-zero-or-pos, eq-or-lt-of-le}
 use native.Mathlib.Omega.{arith}
@@ -104,3 +104,24 @@ test-of-irreducible m irr =
 
 pub irreducible-iff : (m : ℕ) → T (irreducible? m) ↔ Irreducible m
 irreducible-iff m = (irreducible-of-test m, test-of-irreducible m)
+
+pub irreducible-stable : (m : ℕ) → ¬ (¬ (Irreducible m)) → Irreducible m
+irreducible-stable m n = go (irreducible? m) refl
+  where
+    go : (t : Bool) → irreducible? m ≡ t → Irreducible m
+    go true e = irreducible-of-test m (subst T (sym e) tt)
+    go false e = absurd (n (λ irr. subst T e (test-of-irreducible m irr)))
+
+-- ---- by trials
+
+-- no f from 2 on whose degree is at most half that of m divides m
+pub irreducible-of-trials : (m : ℕ) → 2 ≤ m → ((f : ℕ) → 1 < f → f < 2 ^ (degree m / 2 + 1) → ¬ (rem f m ≡ 0)) → Irreducible m
+unfolding irreducible?
+irreducible-of-trials m h fails =
+    irreducible-of-test m
+    (yes-and (leb 2 m) (no-low-factor? m) (le→leb 2 m h)
+    (→all-below (λ k. not (divides? (k + 2) m)) (2 ^ (degree m / 2 + 1) - 2)
+    (λ k l. not-T (divides? (k + 2) m) (λ t. fails (k + 2) (omega arith) (omega arith) (divides?→ (k + 2) m t)))))
+
+pub reducible-of-factor : (m f : ℕ) → 1 < f → f < 2 ^ (degree m / 2 + 1) → rem f m ≡ 0 → Irreducible m → ⊥
+reducible-of-factor m f h b e irr = tried m (test-of-irreducible m irr) f h b e

@@ -38,6 +38,12 @@ pub degree-positive : {a i : ℕ} → HasDegree a i → 2 ≤ a → 0 < i
 degree-positive {i = zero} d h = absurd (omega (arith, d .high))
 degree-positive {i = suc i} d h = omega arith
 
+-- a number whose degree is not 0 is not 0
+pub degree-positive-number : (n : ℕ) → 0 < degree n → 0 < n
+unfolding degree
+degree-positive-number zero h = h
+degree-positive-number (suc n) h = omega arith
+
 pub half-degree : {a i : ℕ} → HasDegree a (suc i) → HasDegree (a / 2) i
 half-degree {a} {i} d = record { low = omega (arith, d .low, pow-suc 2 i); high = omega (arith, d .high, pow-suc 2 (suc i)) }
 
@@ -50,6 +56,13 @@ degree-below {a} {i} j d h = omega (arith, not-above)
   where
     not-above : ¬ (j ≤ i)
     not-above l = lt-irrefl a (lt-of-lt-of-le h (le-trans (pow-mono l) (d .low)))
+
+-- a number from 2^j on has a degree of at least j
+pub degree-above : {a i : ℕ} (j : ℕ) → HasDegree a i → 2 ^ j ≤ a → j ≤ i
+degree-above {a} {i} j d h = omega (arith, not-below)
+  where
+    not-below : ¬ (suc i ≤ j)
+    not-below l = lt-irrefl a (lt-of-lt-of-le (d .high) (le-trans (pow-mono l) h))
 
 pub degree-unique : {a i j : ℕ} → HasDegree a i → HasDegree a j → i ≡ j
 degree-unique {a} {i} {j} d e = omega (arith, degree-below (suc j) d (e .high), degree-below (suc i) e (d .high))
@@ -64,7 +77,7 @@ xor-degree {a} {b} {i} d h =
     not-below : ¬ (a ⊕ b < 2 ^ i)
     not-below l = lt-irrefl a (lt-of-lt-of-le (subst (λ (x : ℕ). x < 2 ^ i) (sym (xor-move a b refl)) (xor-below i l h)) (d .low))
 
-top-bit : {a i : ℕ} → HasDegree a i → a / 2 ^ i ≡ 1
+pub top-bit : {a i : ℕ} → HasDegree a i → a / 2 ^ i ≡ 1
 top-bit {a} {i} d = div-eq-of-lt-le (2 ^ i) (omega (arith, d .low)) (omega (arith, d .high, pow-suc 2 i))
 
 -- two summands of the same degree leave a lower one

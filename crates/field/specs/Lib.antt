@@ -8,3 +8,10 @@ pub mod Product
 pub mod Decide
 pub mod Laws
 pub mod Symbols
+pub mod Products
+pub mod Division
+pub mod Checks
+pub mod Ranges
+pub mod Euclid
+pub mod Calls
+pub mod Cases

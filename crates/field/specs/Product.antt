@@ -5,9 +5,9 @@ use Prim.Native.Nat.{ℕ, zero, suc, _*_, _/_, _%_, _^_, _≤_, _<_}
 use native.Mathlib.Nat.{lt-irrefl, lt-of-lt-of-le, lt-of-le-of-lt, le-refl, eq-zero-or-pos, le-of-eq, eq-or-lt-of-le, pow-suc}
 use native.Mathlib.Omega.{arith}
 use Rattle.field.specs.Binary.{_⊕_, clmul, degree, reduce, rem, product, Irreducible}
-use Rattle.field.specs.Xor.{xor-assoc, xor-comm, xor-self, xor-zero-left, xor-zero-right, xor-below, xor-move}
+use Rattle.field.specs.Xor.{xor-zero-left, xor-zero-right, xor-move}
 use Rattle.field.specs.Clmul.{clmul-zero-left, clmul-step, clmul-two-right, clmul-double-left, clmul-one-left, clmul-one-right, clmul-comm, clmul-assoc, clmul-left-comm, clmul-xor-left, clmul-xor-right}
-use Rattle.field.specs.Degree.{mul-bit-le, degree-right, degree-positive}
+use Rattle.field.specs.Degree.{mul-bit-le, degree-right}
 use Rattle.field.specs.Rem.{rem-zero, reduce-rem, rem-below, rem-small, rem-multiple, rem-xor, rem-clmul-left, rem-clmul-right, divide}
 
 -- ---- the product modulo any m but 0
@@ -24,6 +24,9 @@ module _ (m : ℕ) (pos : 0 < m) where
   pub product-comm : (x y : ℕ) → product m x y ≡ product m y x
   unfolding product
   product-comm x y = ap (rem m) (clmul-comm x y)
+
+  pub product-zero-right : (x : ℕ) → product m x 0 ≡ 0
+  product-zero-right x = product-comm x 0 ∙ product-zero-left x
 
   pub product-assoc : (x y z : ℕ) → product m (product m x y) z ≡ product m x (product m y z)
   unfolding product

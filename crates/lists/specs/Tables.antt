@@ -99,6 +99,18 @@ module _ {A : Type 0} where
   pub getD-part : (m i j : ℕ) (l : List A) (d : A) → j < m → getD (part m i l) j d ≡ getD l (i * m + j) d
   getD-part m i j l d h = getD-take m (drop (i * m) l) j d h ∙ getD-drop (i * m) l j d
 
+  -- A part of a table
+  pub part-tab : (n m i : ℕ) (f : ℕ → A) → i < n → part m i (tab (n * m) f) ≡ tab m (λ j. f (i * m + j))
+  part-tab n m i f h =
+      let fits : i * m + m ≤ n * m = part-fits m h in
+      tab-of m (part m i (tab (n * m) f)) (f 0) (length-part m i (tab (n * m) f) (omega (arith, length-tab (n * m) f)))
+      ∙ tab-ext m (λ j. getD (part m i (tab (n * m) f)) j (f 0)) (λ j. f (i * m + j))
+      (λ j l. getD-part m i j (tab (n * m) f) (f 0) l ∙ getD-tab (n * m) f (i * m + j) (f 0) (omega arith))
+
+  -- Lists with the same parts are equal
+  pub part-ext : (n m : ℕ) (l k : List A) → length l ≡ n * m → length k ≡ n * m → ((i : ℕ) → i < n → part m i l ≡ part m i k) → l ≡ k
+  part-ext n m l k el ek e = sym (flat-part n m l el) ∙ flat-ext n (λ i. part m i l) (λ i. part m i k) e ∙ flat-part n m k ek
+
   pub length-insert : (s : ℕ) (x l : List A) → length (insert s x l) ≡ length x + length l
   length-insert s x l =
       length-append (take s l ++ x) (drop s l) ∙ ap (λ (t : ℕ). t + length (drop s l)) (length-append (take s l) x)

@@ -12,10 +12,10 @@ use lib.Pow.{pow-pos, pow-mono}
 use lib.Seq.{take-at, drop-at, take-take, getD-take, length-take-le}
 use Rattle.field.specs.Laws.{Ops, IsField, ring, 0-⊕, ⊗-1}
 use Rattle.lists.specs.All.{All, drop-take, All-take, All-drop, All-drop-le, All-append, All-replicate, IsZero}
-use Rattle.poly.specs.Poly.{eval, addP, mulP, length-addP, length-mulP, eval-addP, eval-mulP, eval-sym, addP-sym, mulP-sym, eval-unique}
+use Rattle.poly.specs.Poly.{eval, addP, scaleP, mulP, length-addP, length-scaleP, length-mulP, eval-addP, eval-scaleP, eval-mulP, eval-sym, addP-sym, scaleP-sym, mulP-sym, eval-unique}
 use Rattle.poly.specs.Span.{elem, vanish, Independent, vanish-sym, vanish-nil, vanish-cons, elem-sym, elem-distinct}
-use Rattle.poly.specs.Transform.{OnCoset, evalX-exists}
-use Rattle.poly.specs.Novel.{W, evalX, W-next, getD-sym, evalX-unique}
+use Rattle.poly.specs.Values.{OnCoset, evalX-exists, evalX-unique}
+use Rattle.poly.specs.Novel.{W, step, image, evalX, W-next, step-sym, getD-sym}
 
 module _ (K : Ops) where
   -- The coefficients of the subspace polynomial
@@ -30,21 +30,29 @@ module _ (K : Ops) where
       let e : length (addP K (vanishP bs) (vanish K bs b ∷ [])) ≡ 2 ^ length bs + 1 = omega (arith, length-addP K (vanishP bs) (vanish K bs b ∷ []), pow-pos (length bs)) in
       omega (arith, length-mulP K (vanishP bs) (addP K (vanishP bs) (vanish K bs b ∷ [])) (omega arith) (omega arith), pow-succ' 2 (length bs))
 
-  -- The powers of x in place of the products of subspace polynomials
+  -- The coefficients of the normalised subspace polynomial of the first j basis elements
+  abbrev pub imageP : List ℕ → ℕ → List ℕ
+  imageP bs j = scaleP K (K .inv (step K bs j)) (vanishP (take j bs))
+
+  pub length-imageP : (bs : List ℕ) (j : ℕ) → j ≤ length bs → length (imageP bs j) ≡ 2 ^ j + 1
+  length-imageP bs j h =
+      length-scaleP K (K .inv (step K bs j)) (vanishP (take j bs)) ∙ length-vanishP (take j bs) ∙ ap (λ (k : ℕ). 2 ^ k + 1) (length-take-le j bs h)
+
+  -- The powers of x in place of the products of normalised subspace polynomials
   abbrev pub monomials : List ℕ → ℕ → List ℕ → List ℕ
   monomials bs zero d = getD d 0 0 ∷ []
-  monomials bs (suc j) d = addP K (monomials bs j (take (2 ^ j) d)) (mulP K (vanishP (take j bs)) (monomials bs j (drop (2 ^ j) d)))
+  monomials bs (suc j) d = addP K (monomials bs j (take (2 ^ j) d)) (mulP K (imageP bs j) (monomials bs j (drop (2 ^ j) d)))
 
   pub length-monomials : (bs : List ℕ) (j : ℕ) (d : List ℕ) → j ≤ length bs → length (monomials bs j d) ≡ 2 ^ j
   length-monomials bs zero d h = refl
   length-monomials bs (suc j) d h =
       let e₁ : length (monomials bs j (take (2 ^ j) d)) ≡ 2 ^ j = length-monomials bs j (take (2 ^ j) d) (omega arith) in
       let e₂ : length (monomials bs j (drop (2 ^ j) d)) ≡ 2 ^ j = length-monomials bs j (drop (2 ^ j) d) (omega arith) in
-      let e₃ : length (vanishP (take j bs)) ≡ 2 ^ j + 1 = length-vanishP (take j bs) ∙ ap (λ (k : ℕ). 2 ^ k + 1) (length-take-le j bs (omega arith)) in
+      let e₃ : length (imageP bs j) ≡ 2 ^ j + 1 = length-imageP bs j (omega arith) in
       omega (
         arith,
-        length-addP K (monomials bs j (take (2 ^ j) d)) (mulP K (vanishP (take j bs)) (monomials bs j (drop (2 ^ j) d))),
-        length-mulP K (vanishP (take j bs)) (monomials bs j (drop (2 ^ j) d)) (omega arith) (omega (arith, pow-pos j)),
+        length-addP K (monomials bs j (take (2 ^ j) d)) (mulP K (imageP bs j) (monomials bs j (drop (2 ^ j) d))),
+        length-mulP K (imageP bs j) (monomials bs j (drop (2 ^ j) d)) (omega arith) (omega (arith, pow-pos j)),
         pow-pos j,
       )
 
@@ -72,20 +80,28 @@ module _ {K : Ops} (F : IsField K) where
       ∙ ap₂ _⊗_ (eval-vanishP bs x s) (eval-addP F (vanishP K bs) (vanish K bs b ∷ []) x ∙ ap₂ _⊕_ (eval-vanishP bs x s) (constant-eval (vanish K bs b) x))
       ∙ sym (vanish-cons F b bs x)
 
+  imageP-sym : (bs : List ℕ) → All Sym bs → (j : ℕ) → All Sym (imageP K bs j)
+  imageP-sym bs sb j = scaleP-sym F (inv (step K bs j)) (vanishP K (take j bs)) (F .sym-inv (step-sym F bs sb j)) (vanishP-sym (take j bs) (All-take Sym j bs sb))
+
+  pub eval-imageP : (bs : List ℕ) (j x : ℕ) → Sym x → eval K (imageP K bs j) x ≡ image K bs j x
+  eval-imageP bs j x s =
+      eval-scaleP F (inv (step K bs j)) (vanishP K (take j bs)) x ∙ ap (λ (t : ℕ). inv (step K bs j) ⊗ t) (eval-vanishP (take j bs) x s)
+      ∙ F .prod-comm (inv (step K bs j)) (W K bs j x)
+
   pub monomials-sym : (bs : List ℕ) → All Sym bs → (j : ℕ) (d : List ℕ) → All Sym d → All Sym (monomials K bs j d)
   monomials-sym bs sb zero d s = (getD-sym F d 0 s, tt)
   monomials-sym bs sb (suc j) d s =
-      addP-sym F (monomials K bs j (take (2 ^ j) d)) (mulP K (vanishP K (take j bs)) (monomials K bs j (drop (2 ^ j) d)))
+      addP-sym F (monomials K bs j (take (2 ^ j) d)) (mulP K (imageP K bs j) (monomials K bs j (drop (2 ^ j) d)))
       (monomials-sym bs sb j (take (2 ^ j) d) (All-take Sym (2 ^ j) d s))
-      (mulP-sym F (vanishP K (take j bs)) (monomials K bs j (drop (2 ^ j) d)) (vanishP-sym (take j bs) (All-take Sym j bs sb))
+      (mulP-sym F (imageP K bs j) (monomials K bs j (drop (2 ^ j) d)) (imageP-sym bs sb j)
       (monomials-sym bs sb j (drop (2 ^ j) d) (All-drop Sym (2 ^ j) d s)))
 
   pub eval-monomials : (bs : List ℕ) (j : ℕ) (d : List ℕ) (x : ℕ) → Sym x → eval K (monomials K bs j d) x ≡ evalX K bs j d x
   eval-monomials bs zero d x s = constant-eval (getD d 0 0) x
   eval-monomials bs (suc j) d x s =
-      eval-addP F (monomials K bs j (take (2 ^ j) d)) (mulP K (vanishP K (take j bs)) (monomials K bs j (drop (2 ^ j) d))) x
+      eval-addP F (monomials K bs j (take (2 ^ j) d)) (mulP K (imageP K bs j) (monomials K bs j (drop (2 ^ j) d))) x
       ∙ ap₂ _⊕_ (eval-monomials bs j (take (2 ^ j) d) x s)
-      (eval-mulP F (vanishP K (take j bs)) (monomials K bs j (drop (2 ^ j) d)) x ∙ ap₂ _⊗_ (eval-vanishP (take j bs) x s) (eval-monomials bs j (drop (2 ^ j) d) x s))
+      (eval-mulP F (imageP K bs j) (monomials K bs j (drop (2 ^ j) d)) x ∙ ap₂ _⊗_ (eval-imageP bs j x s) (eval-monomials bs j (drop (2 ^ j) d) x s))
 
   module _ (bs : List ℕ) (sb : All Sym bs) (ind : Independent K bs) where
     -- The same polynomial over the products of subspace polynomials
@@ -93,11 +109,18 @@ module _ {K : Ops} (F : IsField K) where
       pub coeffs : List ℕ
       pub count : length coeffs ≡ 2 ^ j
       pub elements : All Sym coeffs
+      pub powers : monomials K bs j coeffs ≡ p
       pub values : (x : ℕ) → Sym x → evalX K bs j coeffs x ≡ eval K p x
 
     pub to-novel : (j : ℕ) → j ≤ length bs → (p : List ℕ) → length p ≡ 2 ^ j → All Sym p → Novel j p
     to-novel j hj p e sp =
-        record { coeffs = t .coeffs; count = t .count; elements = t .elements; values = λ x s. sym (eval-monomials bs j (t .coeffs) x s) ∙ ap (λ (q : List ℕ). eval K q x) same }
+        record {
+          coeffs = t .coeffs;
+          count = t .count;
+          elements = t .elements;
+          powers = same;
+          values = λ x s. sym (eval-monomials bs j (t .coeffs) x s) ∙ ap (λ (q : List ℕ). eval K q x) same;
+        }
       where
         point : ℕ → ℕ
         point i = 0 ⊕ elem K bs i
@@ -122,16 +145,16 @@ module _ {K : Ops} (F : IsField K) where
   evalX-zeros bs zero [] x z = refl
   evalX-zeros bs zero (c ∷ d) x z = z .0
   evalX-zeros bs (suc j) d x z =
-      ap₂ (λ (u v : ℕ). u ⊕ W K bs j x ⊗ v) (evalX-zeros bs j (take (2 ^ j) d) x (All-take IsZero (2 ^ j) d z)) (evalX-zeros bs j (drop (2 ^ j) d) x (All-drop IsZero (2 ^ j) d z))
-      ∙ constant-eval 0 (W K bs j x)
+      ap₂ (λ (u v : ℕ). u ⊕ image K bs j x ⊗ v) (evalX-zeros bs j (take (2 ^ j) d) x (All-take IsZero (2 ^ j) d z)) (evalX-zeros bs j (drop (2 ^ j) d) x (All-drop IsZero (2 ^ j) d z))
+      ∙ constant-eval 0 (image K bs j x)
 
   -- Only the first 2 ^ m coefficients count
   pub evalX-take : (bs : List ℕ) (m n : ℕ) (d : List ℕ) (x : ℕ) → 2 ^ m ≤ n → evalX K bs m (take n d) x ≡ evalX K bs m d x
   evalX-take bs zero n d x h = getD-take n d 0 0 h
   evalX-take bs (suc m) n d x h =
-      ap₂ (λ (u v : List ℕ). evalX K bs m u x ⊕ W K bs m x ⊗ evalX K bs m v x) (take-take (2 ^ m) n d (omega arith))
+      ap₂ (λ (u v : List ℕ). evalX K bs m u x ⊕ image K bs m x ⊗ evalX K bs m v x) (take-take (2 ^ m) n d (omega arith))
       (ap (λ (k : ℕ). drop (2 ^ m) (take k d)) {x = n} {y = 2 ^ m + (n - 2 ^ m)} (omega arith) ∙ drop-take (2 ^ m) (n - 2 ^ m) d)
-      ∙ ap (λ (t : ℕ). evalX K bs m (take (2 ^ m) d) x ⊕ W K bs m x ⊗ t) (evalX-take bs m (n - 2 ^ m) (drop (2 ^ m) d) x (omega arith))
+      ∙ ap (λ (t : ℕ). evalX K bs m (take (2 ^ m) d) x ⊕ image K bs m x ⊗ t) (evalX-take bs m (n - 2 ^ m) (drop (2 ^ m) d) x (omega arith))
 
   -- Where the coefficients from 2 ^ m on are 0, the level m gives the same value
   pub evalX-low : (bs : List ℕ) (m j : ℕ) → m ≤ j → (d : List ℕ) (x : ℕ) → All IsZero (drop (2 ^ m) d) → evalX K bs j d x ≡ evalX K bs m d x
@@ -141,8 +164,8 @@ module _ {K : Ops} (F : IsField K) where
       step j h ih =
           let wide : 2 ^ m ≤ 2 ^ j = pow-mono h in
           let rest : All IsZero (drop (2 ^ j) d) = All-drop-le IsZero (2 ^ m) (2 ^ j) d wide z in
-          ap₂ (λ (u v : ℕ). u ⊕ W K bs j x ⊗ v) (evalX-take bs j (2 ^ j) d x (omega arith)) (evalX-zeros bs j (drop (2 ^ j) d) x rest)
-          ∙ constant-eval (evalX K bs j d x) (W K bs j x) ∙ ih
+          ap₂ (λ (u v : ℕ). u ⊕ image K bs j x ⊗ v) (evalX-take bs j (2 ^ j) d x (omega arith)) (evalX-zeros bs j (drop (2 ^ j) d) x rest)
+          ∙ constant-eval (evalX K bs j d x) (image K bs j x) ∙ ih
 
   module _ (bs : List ℕ) (sb : All Sym bs) (ind : Independent K bs) where
     -- d is a polynomial of degree below 2 ^ m

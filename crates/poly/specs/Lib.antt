@@ -1,9 +1,12 @@
--- Polynomials over a field of characteristic 2, spans, subspace polynomials and the novel basis.
+-- Polynomials over a field of characteristic 2, spans, subspace polynomials, the novel basis, its transform, and codewords.
 pub mod Poly
 pub mod Interpolate
 pub mod Span
 pub mod Codeword
 pub mod Novel
 pub mod Transform
+pub mod Values
 pub mod Degree
+pub mod Blocks
 pub mod Tower
+pub mod Cases

@@ -1,15 +1,17 @@
--- The basis of Lin, Chung and Han for polynomials: coefficient i goes with the product of the subspace polynomials W_j for the digits j of i that are 1.
+-- The basis of Lin, Chung and Han for polynomials: coefficient i goes with the product of the normalised subspace polynomials of the digits of i that are 1.
 use mathlib.Core.Path.{_≡_, refl, sym, ap, ap₂, _∙_, subst}
-use mathlib.Core.Logic.{_≢_}
-use mathlib.Core.List.{List, [], _∷_, _++_}
-use Prim.Native.Nat.{ℕ, zero, suc, _+_, _^_, _/_, _%_, _≤_, _<_}
+use mathlib.Core.Logic.{_≢_, _↔_}
+use mathlib.Core.List.{List, [], _∷_, _++_, map}
+use Prim.Native.Nat.{ℕ, zero, suc, _+_, _-_, _^_, _/_, _%_, _≤_, _<_}
+use native.Mathlib.Decide.{decLt}
+use native.Mathlib.Nat.{le-refl}
 use native.Mathlib.Omega.{arith}
-use lib.ListN.{length, getD, take, drop, length-take, length-drop}
+use lib.ListN.{length, getD, take, drop}
 use lib.Seq.{take-at, drop-at, split-at, drop-cons, take-suc}
-use Rattle.field.specs.Laws.{combine, Ops, IsField, ring, sums, ⊕-assoc, ⊕-0, 0-⊕, ⊗-0, ⊗-zero}
-use Rattle.lists.specs.All.{All, All-take, All-drop, All-parts, IsZero}
-use Rattle.poly.specs.Poly.{addP, scaleP, length-addP, length-scaleP, take-addP, drop-addP, take-scaleP, drop-scaleP, addP-sym, scaleP-sym, zeros-equal}
-use Rattle.poly.specs.Span.{elem, vanish, Independent, bitOf, vanish-sum, vanish-sym, vanish-coset, vanish-next, vanish-snoc, elem-cons, elem-zero}
+use Rattle.field.specs.Laws.{Ops, IsField, ring, sums, ⊕-assoc, ⊕-0, 0-⊕, ⊕-⊗, 0-⊗, ⊗-0, ⊕-zero}
+use Rattle.lists.specs.All.{All, All-take, All-drop, All-at}
+use Rattle.poly.specs.Poly.{addP, scaleP, take-addP, drop-addP, take-scaleP, drop-scaleP}
+use Rattle.poly.specs.Span.{elem, vanish, Independent, bitOf, vanish-sum, vanish-zero, vanish-sym, vanish-coset, vanish-elem, vanish-next, vanish-snoc, elem-cons, elem-zero, elem-map}
 
 module _ (K : Ops) (bs : List ℕ) where
   infixl 60 _⊕_
@@ -20,14 +22,18 @@ module _ (K : Ops) (bs : List ℕ) where
   abbrev pub W : ℕ → ℕ → ℕ
   W j x = vanish K (take j bs) x
 
+  -- its value at the next basis element
+  abbrev pub step : ℕ → ℕ
+  step j = W j (getD bs j 0)
+
+  -- W j normalised: 1 at the next basis element
+  abbrev pub image : ℕ → ℕ → ℕ
+  image j x = W j x ⊗ inv (step j)
+
   -- The value at x of the polynomial with the 2 ^ j coefficients d
   abbrev pub evalX : ℕ → List ℕ → ℕ → ℕ
   evalX zero d x = getD d 0 0
-  evalX (suc j) d x = evalX j (take (2 ^ j) d) x ⊕ W j x ⊗ evalX j (drop (2 ^ j) d) x
-
-  -- One butterfly: the coefficients on the coset of s
-  abbrev pub folded : ℕ → List ℕ → ℕ → List ℕ
-  folded j d s = addP K (take (2 ^ j) d) (scaleP K (W j s) (drop (2 ^ j) d))
+  evalX (suc j) d x = evalX j (take (2 ^ j) d) x ⊕ image j x ⊗ evalX j (drop (2 ^ j) d) x
 
 module _ {K : Ops} (F : IsField K) where
   infixl 60 _⊕_
@@ -35,18 +41,7 @@ module _ {K : Ops} (F : IsField K) where
   open Ops K using (_⊕_, _⊗_, inv, Sym)
 
   pub getD-sym : (bs : List ℕ) (j : ℕ) → All Sym bs → Sym (getD bs j 0)
-  getD-sym [] j s = F .sym-zero
-  getD-sym (b ∷ bs) zero s = s .0
-  getD-sym (b ∷ bs) (suc j) s = getD-sym bs j (s .1)
-
-  head-addP : (d e : List ℕ) → getD (addP K d e) 0 0 ≡ getD d 0 0 ⊕ getD e 0 0
-  head-addP [] e = sym (0-⊕ F (getD e 0 0))
-  head-addP (c ∷ d) [] = sym (⊕-0 F c)
-  head-addP (c ∷ d) (b ∷ e) = refl
-
-  head-scaleP : (a : ℕ) (d : List ℕ) → getD (scaleP K a d) 0 0 ≡ a ⊗ getD d 0 0
-  head-scaleP a [] = sym (⊗-0 F a)
-  head-scaleP a (c ∷ d) = refl
+  getD-sym bs j s = All-at Sym bs 0 s (F .sym-zero) j
 
   -- The element past the first 2 ^ j adds basis element j
   pub elem-high : (bs : List ℕ) (j r : ℕ) → j < length bs → r < 2 ^ j → elem K bs (r + 2 ^ j) ≡ elem K bs r ⊕ getD bs j 0
@@ -66,48 +61,34 @@ module _ {K : Ops} (F : IsField K) where
   elem-low (b ∷ bs) (suc j) r h = ap (λ (t : ℕ). bitOf (r % 2) b ⊕ t) (elem-low bs j (r / 2) (omega arith))
 
   module _ (bs : List ℕ) where
-    -- The recursion of the subspace polynomials, as code computes it
-    pub W-suc : (j x : ℕ) → j < length bs → W K bs (suc j) x ≡ W K bs j x ⊗ (W K bs j x ⊕ W K bs j (getD bs j 0))
+    -- The recurrence of the subspace polynomials, as code computes it
+    pub W-suc : (j x : ℕ) → j < length bs → W K bs (suc j) x ≡ W K bs j x ⊗ (W K bs j x ⊕ step K bs j)
     W-suc j x h = ap (λ (l : List ℕ). vanish K l x) (take-suc bs j 0 h) ∙ vanish-snoc F (take j bs) (getD bs j 0) x
 
-    -- The value, from the two halves of the coefficients
-    pub evalX-halves : (j : ℕ) (lo hi : List ℕ) (x : ℕ) → length lo ≡ 2 ^ j → evalX K bs (suc j) (lo ++ hi) x ≡ evalX K bs j lo x ⊕ W K bs j x ⊗ evalX K bs j hi x
-    evalX-halves j lo hi x e =
-        ap₂ (λ (p q : List ℕ). evalX K bs j p x ⊕ W K bs j x ⊗ evalX K bs j q x) (take-at lo hi (2 ^ j) e) (drop-at lo hi (2 ^ j) e)
+    -- W j is 0 at the elements r below 2 ^ j
+    pub W-elem : (j r : ℕ) → r < 2 ^ j → W K bs j (elem K bs r) ≡ 0
+    W-elem j r h = ap (W K bs j) (elem-low bs j r h) ∙ vanish-elem F (take j bs) r
 
-    lin-step : (a b c d w : ℕ) → a ⊕ b ⊕ w ⊗ (c ⊕ d) ≡ a ⊕ w ⊗ c ⊕ (b ⊕ w ⊗ d)
-    lin-step a b c d w = simp (ring, F)
-
-    pub evalX-addP : (j : ℕ) (d e : List ℕ) (x : ℕ) → evalX K bs j (addP K d e) x ≡ evalX K bs j d x ⊕ evalX K bs j e x
-    evalX-addP zero d e x = head-addP d e
-    evalX-addP (suc j) d e x =
-        ap₂ (λ (u v : List ℕ). evalX K bs j u x ⊕ W K bs j x ⊗ evalX K bs j v x) (take-addP K (2 ^ j) d e) (drop-addP K (2 ^ j) d e)
-        ∙ ap₂ (λ (u v : ℕ). u ⊕ W K bs j x ⊗ v) (evalX-addP j (take (2 ^ j) d) (take (2 ^ j) e) x) (evalX-addP j (drop (2 ^ j) d) (drop (2 ^ j) e) x)
-        ∙ lin-step _ _ _ _ (W K bs j x)
-
-    mult-step : (a b c w : ℕ) → a ⊗ b ⊕ w ⊗ (a ⊗ c) ≡ a ⊗ (b ⊕ w ⊗ c)
-    mult-step a b c w = simp (ring, F)
-
-    pub evalX-scaleP : (j a : ℕ) (d : List ℕ) (x : ℕ) → evalX K bs j (scaleP K a d) x ≡ a ⊗ evalX K bs j d x
-    evalX-scaleP zero a d x = head-scaleP a d
-    evalX-scaleP (suc j) a d x =
-        ap₂ (λ (u v : List ℕ). evalX K bs j u x ⊕ W K bs j x ⊗ evalX K bs j v x) (take-scaleP K a (2 ^ j) d) (drop-scaleP K a (2 ^ j) d)
-        ∙ ap₂ (λ (u v : ℕ). u ⊕ W K bs j x ⊗ v) (evalX-scaleP j a (take (2 ^ j) d) x) (evalX-scaleP j a (drop (2 ^ j) d) x)
-        ∙ mult-step a _ _ (W K bs j x)
-
-    -- W j is constant on the points x + element r, r below 2 ^ j
+    -- and constant on their cosets
     pub W-coset : (j s r : ℕ) → r < 2 ^ j → W K bs j (s ⊕ elem K bs r) ≡ W K bs j s
     W-coset j s r h = ap (λ (t : ℕ). W K bs j (s ⊕ t)) (elem-low bs j r h) ∙ vanish-coset F (take j bs) s r
 
-    -- On the coset of s the polynomial has half as many coefficients
-    pub evalX-folded : (j : ℕ) (d : List ℕ) (s r : ℕ) → r < 2 ^ j → evalX K bs (suc j) d (s ⊕ elem K bs r) ≡ evalX K bs j (folded K bs j d s) (s ⊕ elem K bs r)
-    evalX-folded j d s r h =
-        ap (λ (t : ℕ). evalX K bs j (take (2 ^ j) d) x ⊕ t ⊗ evalX K bs j (drop (2 ^ j) d) x) (W-coset j s r h)
-        ∙ ap (λ (t : ℕ). evalX K bs j (take (2 ^ j) d) x ⊕ t) (sym (evalX-scaleP j (W K bs j s) (drop (2 ^ j) d) x))
-        ∙ sym (evalX-addP j (take (2 ^ j) d) (scaleP K (W K bs j s) (drop (2 ^ j) d)) x)
-      where
-        x : ℕ
-        x = s ⊕ elem K bs r
+    -- The normalised W j is additive
+    pub image-sum : (j x y : ℕ) → image K bs j (x ⊕ y) ≡ image K bs j x ⊕ image K bs j y
+    image-sum j x y = ap (λ (t : ℕ). t ⊗ inv (step K bs j)) (vanish-sum F (take j bs) x y) ∙ ⊕-⊗ F (W K bs j x) (W K bs j y) (inv (step K bs j))
+
+    pub image-zero : (j : ℕ) → image K bs j 0 ≡ 0
+    image-zero j = ap (λ (t : ℕ). t ⊗ inv (step K bs j)) (vanish-zero F (take j bs)) ∙ 0-⊗ F (inv (step K bs j))
+
+    -- The images of a span are the span of the images
+    pub elem-image : (j : ℕ) (cs : List ℕ) (i : ℕ) → elem K (map (image K bs j) cs) i ≡ image K bs j (elem K cs i)
+    elem-image j cs i = elem-map F (image K bs j) (image-sum j) (image-zero j) cs i
+
+    pub image-elem : (j r : ℕ) → r < 2 ^ j → image K bs j (elem K bs r) ≡ 0
+    image-elem j r h = ap (λ (t : ℕ). t ⊗ inv (step K bs j)) (W-elem j r h) ∙ 0-⊗ F (inv (step K bs j))
+
+    pub image-coset : (j s r : ℕ) → r < 2 ^ j → image K bs j (s ⊕ elem K bs r) ≡ image K bs j s
+    image-coset j s r h = ap (λ (t : ℕ). t ⊗ inv (step K bs j)) (W-coset j s r h)
 
     -- The upper half of the points is the lower half of the coset of s + basis element j
     pub upper-point : (j s r : ℕ) → j < length bs → r < 2 ^ j → s ⊕ elem K bs (r + 2 ^ j) ≡ s ⊕ getD bs j 0 ⊕ elem K bs r
@@ -120,83 +101,77 @@ module _ {K : Ops} (F : IsField K) where
       pub W-sym : (j x : ℕ) → Sym x → Sym (W K bs j x)
       W-sym j x sx = vanish-sym F (take j bs) x (All-take Sym j bs sb) sx
 
+      pub step-sym : (j : ℕ) → Sym (step K bs j)
+      step-sym j = W-sym j (getD bs j 0) (getD-sym bs j sb)
+
+      pub image-sym : (j x : ℕ) → Sym x → Sym (image K bs j x)
+      image-sym j x sx = F .sym-prod (W-sym j x sx) (F .sym-inv (step-sym j))
+
+      -- The normalised W j is 1 at basis element j
+      pub image-next : (j : ℕ) → step K bs j ≢ 0 → image K bs j (getD bs j 0) ≡ 1
+      image-next j n = F .prod-inv (step K bs j) (step-sym j) n
+
       pub evalX-sym : (j : ℕ) (d : List ℕ) (x : ℕ) → All Sym d → Sym x → Sym (evalX K bs j d x)
       evalX-sym zero d x sd sx = getD-sym d 0 sd
       evalX-sym (suc j) d x sd sx =
           F .sym-sum (evalX-sym j (take (2 ^ j) d) x (All-take Sym (2 ^ j) d sd) sx)
-          (F .sym-prod (W-sym j x sx) (evalX-sym j (drop (2 ^ j) d) x (All-drop Sym (2 ^ j) d sd) sx))
+          (F .sym-prod (image-sym j x sx) (evalX-sym j (drop (2 ^ j) d) x (All-drop Sym (2 ^ j) d sd) sx))
 
-      folded-sym : (j : ℕ) (d : List ℕ) (s : ℕ) → All Sym d → Sym s → All Sym (folded K bs j d s)
-      folded-sym j d s sd ss =
-          addP-sym F (take (2 ^ j) d) (scaleP K (W K bs j s) (drop (2 ^ j) d)) (All-take Sym (2 ^ j) d sd)
-          (scaleP-sym F (W K bs j s) (drop (2 ^ j) d) (W-sym j s ss) (All-drop Sym (2 ^ j) d sd))
+      -- In an independent basis no step is 0
+      pub W-next : Independent K bs → (j : ℕ) → j < length bs → step K bs j ≢ 0
+      W-next ind j h =
+          vanish-next F (take j bs) (getD bs j 0) (drop (suc j) bs) (All-take Sym j bs sb) (subst (All Sym) (drop-cons bs j 0 h) (All-drop Sym j bs sb))
+          (subst (Independent K) (split-at bs j 0 h) ind)
 
-    pub length-folded : (j : ℕ) (d : List ℕ) (s : ℕ) → length d ≡ 2 ^ suc j → length (folded K bs j d s) ≡ 2 ^ j
-    length-folded j d s e =
-        omega (
-          arith,
-          length-addP K (take (2 ^ j) d) (scaleP K (W K bs j s) (drop (2 ^ j) d)),
-          length-scaleP K (W K bs j s) (drop (2 ^ j) d),
-          length-take (2 ^ j) d,
-          length-drop (2 ^ j) d,
-        )
+    -- Where basis element j is no root of W j, it is not among the elements r below 2 ^ j
+    high-nonzero : (j r : ℕ) → j < length bs → r < 2 ^ j → step K bs j ≢ 0 → elem K bs (r + 2 ^ j) ≢ 0
+    high-nonzero j r hj hr n e = n (ap (W K bs j) (sym (⊕-zero F (elem K bs r) (getD bs j 0) (sym (elem-high bs j r hj hr) ∙ e))) ∙ W-elem j r hr)
 
-  -- Two butterflies with different factors that both give 0
-  entry-zero : (a b w v : ℕ) → Sym b → Sym v → v ≢ 0 → a ⊕ w ⊗ b ≡ 0 → a ⊕ (w ⊕ v) ⊗ b ≡ 0 → (a ≡ 0) × (b ≡ 0)
-  entry-zero a b w v sb sv n e₁ e₂ =
-      let z : b ≡ 0 = ⊗-zero F v b sv sb n (combine F e₁ (combine F e₂ (simp (ring, F)))) in
-      (combine F e₁ (combine F (ap (λ (t : ℕ). w ⊗ t) z) (simp (ring, F))), z)
-
-  halves-zero : (p q : List ℕ) (w v : ℕ) → length p ≡ length q → All Sym q → Sym v → v ≢ 0 → All IsZero (addP K p (scaleP K w q)) → All IsZero (addP K p (scaleP K (w ⊕ v) q))
-      → All IsZero p × All IsZero q
-  halves-zero [] [] w v e sq sv n z₁ z₂ = (tt, tt)
-  halves-zero [] (b ∷ q) w v e sq sv n z₁ z₂ = absurd (omega arith)
-  halves-zero (a ∷ p) [] w v e sq sv n z₁ z₂ = absurd (omega arith)
-  halves-zero (a ∷ p) (b ∷ q) w v e sq sv n z₁ z₂ =
-      let h : (a ≡ 0) × (b ≡ 0) = entry-zero a b w v (sq .0) sv n (z₁ .0) (z₂ .0) in
-      let t : All IsZero p × All IsZero q = halves-zero p q w v (omega arith) (sq .1) sv n (z₁ .1) (z₂ .1) in
-      ((h .0, t .0), (h .1, t .1))
-
-  -- In an independent basis no W j is 0 at basis element j
-  pub W-next : (bs : List ℕ) → All Sym bs → Independent K bs → (j : ℕ) → j < length bs → W K bs j (getD bs j 0) ≢ 0
-  W-next bs sb ind j h =
-      vanish-next F (take j bs) (getD bs j 0) (drop (suc j) bs) (All-take Sym j bs sb) (subst (All Sym) (drop-cons bs j 0 h) (All-drop Sym j bs sb))
-      (subst (Independent K) (split-at bs j 0 h) ind)
-
-  module _ (bs : List ℕ) (sb : All Sym bs) (nz : (j : ℕ) → j < length bs → W K bs j (getD bs j 0) ≢ 0) where
-    -- The induction step of evalX-zero: each half of the points gives a butterfly that is 0
-    zero-step : (j : ℕ) → suc j ≤ length bs → (d : List ℕ) (s : ℕ) → length d ≡ 2 ^ suc j → All Sym d → All IsZero (folded K bs j d s)
-        → All IsZero (folded K bs j d (s ⊕ getD bs j 0)) → All IsZero d
-    zero-step j hj d s e sd lower upper = All-parts IsZero (2 ^ j) d (both .0) (both .1)
+    low-independent : ((j : ℕ) → j < length bs → step K bs j ≢ 0) → (j : ℕ) → j ≤ length bs → (i : ℕ) → i < 2 ^ j → elem K bs i ≡ 0 → i ≡ 0
+    low-independent nz zero hj i hi e = omega arith
+    low-independent nz (suc j) hj i hi e = by (decLt i (2 ^ j)) (λ l. low-independent nz j (omega arith) i l e)
       where
-        b : ℕ
-        b = getD bs j 0
+        by : Dec (i < 2 ^ j) → (i < 2 ^ j → i ≡ 0) → i ≡ 0
+        by (yes l) ih = ih l
+        by (no m) ih =
+            let same : i ≡ i - 2 ^ j + 2 ^ j = omega arith in
+            absurd (high-nonzero j (i - 2 ^ j) hj (omega arith) (nz j hj) (ap (elem K bs) (sym same) ∙ e))
 
-        both : All IsZero (take (2 ^ j) d) × All IsZero (drop (2 ^ j) d)
-        both =
-            halves-zero (take (2 ^ j) d) (drop (2 ^ j) d) (W K bs j s) (W K bs j b) (omega (arith, length-take (2 ^ j) d, length-drop (2 ^ j) d))
-            (All-drop Sym (2 ^ j) d sd) (W-sym bs sb j b (getD-sym bs j sb)) (nz j hj) lower
-            (subst (λ (w : ℕ). All IsZero (addP K (take (2 ^ j) d) (scaleP K w (drop (2 ^ j) d)))) (vanish-sum F (take j bs) s b) upper)
+    -- A basis is dependent exactly when a step is 0
+    pub independent-iff : All Sym bs → Independent K bs ↔ ((j : ℕ) → j < length bs → step K bs j ≢ 0)
+    independent-iff sb = (W-next sb, λ nz. low-independent nz (length bs) (le-refl (length bs)))
 
-    -- A polynomial with 2 ^ j coefficients that is 0 on a coset of the first 2 ^ j elements is 0
-    pub evalX-zero : (j : ℕ) → j ≤ length bs → (d : List ℕ) (s : ℕ) → length d ≡ 2 ^ j → All Sym d → Sym s
-        → ((i : ℕ) → i < 2 ^ j → evalX K bs j d (s ⊕ elem K bs i) ≡ 0) → All IsZero d
-    evalX-zero zero hj [] s e sd ss z = tt
-    evalX-zero zero hj (c ∷ []) s e sd ss z = (z 0 (omega arith), tt)
-    evalX-zero zero hj (c ∷ b ∷ d) s e sd ss z = absurd (omega arith)
-    evalX-zero (suc j) hj d s e sd ss z =
-        zero-step j hj d s e sd
-        (evalX-zero j (omega arith) (folded K bs j d s) s (length-folded bs j d s e) (folded-sym bs sb j d s sd ss) ss
-        (λ i h. sym (evalX-folded bs j d s i h) ∙ z i (omega arith)))
-        (let b : ℕ = getD bs j 0 in
-        let sx : Sym (s ⊕ b) = F .sym-sum ss (getD-sym bs j sb) in
-        evalX-zero j (omega arith) (folded K bs j d (s ⊕ b)) (s ⊕ b) (length-folded bs j d (s ⊕ b) e) (folded-sym bs sb j d (s ⊕ b) sd sx) sx
-        (λ i h. sym (evalX-folded bs j d (s ⊕ b) i h) ∙ ap (evalX K bs (suc j) d) (sym (upper-point bs j s i hj h)) ∙ z (i + 2 ^ j) (omega arith)))
+    -- The value, from the two halves of the coefficients
+    pub evalX-halves : (j : ℕ) (lo hi : List ℕ) (x : ℕ) → length lo ≡ 2 ^ j → evalX K bs (suc j) (lo ++ hi) x ≡ evalX K bs j lo x ⊕ image K bs j x ⊗ evalX K bs j hi x
+    evalX-halves j lo hi x e =
+        ap₂ (λ (p q : List ℕ). evalX K bs j p x ⊕ image K bs j x ⊗ evalX K bs j q x) (take-at lo hi (2 ^ j) e) (drop-at lo hi (2 ^ j) e)
 
-    -- Two such polynomials that agree on a coset are equal
-    pub evalX-unique : (j : ℕ) → j ≤ length bs → (d e : List ℕ) (s : ℕ) → length d ≡ 2 ^ j → length e ≡ 2 ^ j → All Sym d → All Sym e → Sym s
-        → ((i : ℕ) → i < 2 ^ j → evalX K bs j d (s ⊕ elem K bs i) ≡ evalX K bs j e (s ⊕ elem K bs i)) → d ≡ e
-    evalX-unique j hj d e s ld le sd se ss h =
-        zeros-equal F d e (ld ∙ sym le)
-        (evalX-zero j hj (addP K d e) s (omega (arith, length-addP K d e)) (addP-sym F d e sd se) ss
-        (λ i hi. evalX-addP bs j d e (s ⊕ elem K bs i) ∙ ap (λ (t : ℕ). t ⊕ evalX K bs j e (s ⊕ elem K bs i)) (h i hi) ∙ F .sum-self (evalX K bs j e (s ⊕ elem K bs i))))
+    head-addP : (d e : List ℕ) → getD (addP K d e) 0 0 ≡ getD d 0 0 ⊕ getD e 0 0
+    head-addP [] e = sym (0-⊕ F (getD e 0 0))
+    head-addP (c ∷ d) [] = sym (⊕-0 F c)
+    head-addP (c ∷ d) (b ∷ e) = refl
+
+    lin-step : (a b c d w : ℕ) → a ⊕ b ⊕ w ⊗ (c ⊕ d) ≡ a ⊕ w ⊗ c ⊕ (b ⊕ w ⊗ d)
+    lin-step a b c d w = simp (ring, F)
+
+    -- The value is linear in the coefficients
+    pub evalX-addP : (j : ℕ) (d e : List ℕ) (x : ℕ) → evalX K bs j (addP K d e) x ≡ evalX K bs j d x ⊕ evalX K bs j e x
+    evalX-addP zero d e x = head-addP d e
+    evalX-addP (suc j) d e x =
+        ap₂ (λ (u v : List ℕ). evalX K bs j u x ⊕ image K bs j x ⊗ evalX K bs j v x) (take-addP K (2 ^ j) d e) (drop-addP K (2 ^ j) d e)
+        ∙ ap₂ (λ (u v : ℕ). u ⊕ image K bs j x ⊗ v) (evalX-addP j (take (2 ^ j) d) (take (2 ^ j) e) x) (evalX-addP j (drop (2 ^ j) d) (drop (2 ^ j) e) x)
+        ∙ lin-step _ _ _ _ (image K bs j x)
+
+    head-scaleP : (a : ℕ) (d : List ℕ) → getD (scaleP K a d) 0 0 ≡ a ⊗ getD d 0 0
+    head-scaleP a [] = sym (⊗-0 F a)
+    head-scaleP a (c ∷ d) = refl
+
+    mult-step : (a b c w : ℕ) → a ⊗ b ⊕ w ⊗ (a ⊗ c) ≡ a ⊗ (b ⊕ w ⊗ c)
+    mult-step a b c w = simp (ring, F)
+
+    pub evalX-scaleP : (j a : ℕ) (d : List ℕ) (x : ℕ) → evalX K bs j (scaleP K a d) x ≡ a ⊗ evalX K bs j d x
+    evalX-scaleP zero a d x = head-scaleP a d
+    evalX-scaleP (suc j) a d x =
+        ap₂ (λ (u v : List ℕ). evalX K bs j u x ⊕ image K bs j x ⊗ evalX K bs j v x) (take-scaleP K a (2 ^ j) d) (drop-scaleP K a (2 ^ j) d)
+        ∙ ap₂ (λ (u v : ℕ). u ⊕ image K bs j x ⊗ v) (evalX-scaleP j a (take (2 ^ j) d) x) (evalX-scaleP j a (drop (2 ^ j) d) x)
+        ∙ mult-step a _ _ (image K bs j x)

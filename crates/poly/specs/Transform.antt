@@ -1,209 +1,230 @@
--- The additive Fourier transform of Lin, Chung and Han as functions of lists: from coefficients to the values on a coset, and back.
+-- The additive Fourier transform of Lin, Chung and Han as functions of lists of numbers: from coefficients to the values on a coset, and back.
 use mathlib.Core.Path.{_≡_, refl, sym, ap, ap₂, _∙_}
-use mathlib.Core.Logic.{_≢_}
 use mathlib.Core.List.{List, [], _∷_, _++_}
-use Prim.Native.Nat.{ℕ, zero, suc, _+_, _^_, _-_, _≤_, _<_}
-use native.Mathlib.Decide.{decLt}
+use Prim.Native.Nat.{ℕ, zero, suc, _+_, _-_, _^_, _≤_, _<_}
 use native.Mathlib.Nat.{suc-inj}
 use native.Mathlib.Omega.{arith}
-use lib.ListN.{length, getD, take, drop, length-take, length-drop, length-append, take-append-drop, List·getD-append}
-use lib.Seq.{take-at, drop-at, getD-append-add}
-use Rattle.field.specs.Laws.{Ops, IsField, ring, sums, elements, combine, ⊗-inv}
-use Rattle.lists.specs.Tables.{tab, length-tab, getD-tab, All-tab}
+use lib.ListN.{length, take, drop, length-take, length-drop, length-append, take-append-drop}
+use lib.Seq.{take-at, drop-at}
+use Rattle.field.specs.Laws.{Ops, IsField, sums}
 use Rattle.lists.specs.All.{All, All-take, All-drop, All-append}
 use Rattle.poly.specs.Poly.{addP, addP-sym, scaleP, scaleP-sym, length-addP, length-scaleP}
-use Rattle.poly.specs.Span.{elem, vanish-sum}
-use Rattle.poly.specs.Novel.{W, W-sym, evalX, folded, evalX-folded, length-folded, upper-point, getD-sym}
 
--- One inverse butterfly: the two halves of the coefficients, from those on the two cosets
 module _ (K : Ops) where
-  open Ops K using (inv)
+  -- lo + c hi, for the two halves of d
+  abbrev pub folded : ℕ → ℕ → List ℕ → List ℕ
+  folded j c d = addP K (take (2 ^ j) d) (scaleP K c (drop (2 ^ j) d))
 
-  abbrev pub upperHalf : ℕ → List ℕ → List ℕ → List ℕ
-  upperHalf v p q = scaleP K (inv v) (addP K p q)
+  -- lo + c hi and lo + (c + 1) hi back to lo and hi
+  abbrev pub unfolded : ℕ → List ℕ → List ℕ → List ℕ
+  unfolded c p q = addP K p (scaleP K c (addP K p q)) ++ addP K p q
 
-  abbrev pub lowerHalf : ℕ → ℕ → List ℕ → List ℕ → List ℕ
-  lowerHalf w v p q = addP K p (scaleP K w (upperHalf v p q))
-
-  abbrev pub unfolded : ℕ → ℕ → List ℕ → List ℕ → List ℕ
-  unfolded w v p q = lowerHalf w v p q ++ upperHalf v p q
-
-module _ (K : Ops) (bs : List ℕ) where
+-- T i j is the image of basis element i under the normalised W j, and v j that of the shift. Nothing is divided.
+module _ (K : Ops) (T : ℕ → ℕ → ℕ) where
   infixl 60 _⊕_
-  infixl 70 _⊗_
-  open Ops K using (_⊕_, _⊗_, inv, Sym)
+  open Ops K using (_⊕_)
 
-  -- The values of the 2 ^ j coefficients d at s + element i
-  abbrev pub transform : ℕ → ℕ → List ℕ → List ℕ
-  transform zero s d = d
-  transform (suc j) s d = transform j s (folded K bs j d s) ++ transform j (s ⊕ getD bs j 0) (folded K bs j d (s ⊕ getD bs j 0))
+  -- The images of the shift plus basis element j
+  abbrev pub shifted : ℕ → (ℕ → ℕ) → ℕ → ℕ
+  shifted j v i = v i ⊕ T j i
 
-  -- The coefficients with the values g, for the inverses inv
-  abbrev pub inverse : ℕ → ℕ → List ℕ → List ℕ
-  inverse zero s g = g
-  inverse (suc j) s g =
-      unfolded K (W K bs j s) (W K bs j (getD bs j 0)) (inverse j s (take (2 ^ j) g)) (inverse j (s ⊕ getD bs j 0) (drop (2 ^ j) g))
+  -- From 2 ^ j coefficients to the values at the shift plus element i
+  abbrev pub transform : ℕ → (ℕ → ℕ) → List ℕ → List ℕ
+  transform zero v d = d
+  transform (suc j) v d = transform j v (folded K j (v j) d) ++ transform j (shifted j v) (addP K (folded K j (v j) d) (drop (2 ^ j) d))
+
+  -- From the values to the coefficients
+  abbrev pub inverse : ℕ → (ℕ → ℕ) → List ℕ → List ℕ
+  inverse zero v g = g
+  inverse (suc j) v g = unfolded K (v j) (inverse j v (take (2 ^ j) g)) (inverse j (shifted j v) (drop (2 ^ j) g))
+
+-- ---- one layer, from the number of layers
+
+module _ (K : Ops) (T : ℕ → ℕ → ℕ) where
+  pub transform-layer : (m : ℕ) → 0 < m → (v : ℕ → ℕ) (d : List ℕ) → transform K T m v d
+      ≡ transform K T (m - 1) v (folded K (m - 1) (v (m - 1)) d) ++ transform K T (m - 1) (shifted K T (m - 1) v) (addP K (folded K (m - 1) (v (m - 1)) d) (drop (2 ^ (m - 1)) d))
+  transform-layer zero h v d = absurd (omega arith)
+  transform-layer (suc j) h v d =
+      ap (λ (t : ℕ). transform K T t v (folded K t (v t) d) ++ transform K T t (shifted K T t v) (addP K (folded K t (v t) d) (drop (2 ^ t) d))) {x = j} {y = suc j - 1} (omega arith)
+
+  pub inverse-layer : (m : ℕ) → 0 < m → (v : ℕ → ℕ) (g : List ℕ) → inverse K T m v g
+      ≡ unfolded K (v (m - 1)) (inverse K T (m - 1) v (take (2 ^ (m - 1)) g)) (inverse K T (m - 1) (shifted K T (m - 1) v) (drop (2 ^ (m - 1)) g))
+  inverse-layer zero h v g = absurd (omega arith)
+  inverse-layer (suc j) h v g =
+      ap (λ (t : ℕ). unfolded K (v t) (inverse K T t v (take (2 ^ t) g)) (inverse K T t (shifted K T t v) (drop (2 ^ t) g))) {x = j} {y = suc j - 1} (omega arith)
+
+-- ---- lengths
+
+module _ (K : Ops) where
+  pub length-folded : (j c : ℕ) (d : List ℕ) → length d ≡ 2 ^ suc j → length (folded K j c d) ≡ 2 ^ j
+  length-folded j c d e =
+      omega (arith, length-addP K (take (2 ^ j) d) (scaleP K c (drop (2 ^ j) d)), length-scaleP K c (drop (2 ^ j) d), length-take (2 ^ j) d, length-drop (2 ^ j) d)
+
+  pub length-upper : (j c : ℕ) (d : List ℕ) → length d ≡ 2 ^ suc j → length (addP K (folded K j c d) (drop (2 ^ j) d)) ≡ 2 ^ j
+  length-upper j c d e = omega (arith, length-addP K (folded K j c d) (drop (2 ^ j) d), length-folded j c d e, length-drop (2 ^ j) d)
+
+  length-lower : (n c : ℕ) (p q : List ℕ) → length p ≡ n → length q ≡ n → length (addP K p (scaleP K c (addP K p q))) ≡ n
+  length-lower n c p q ep eq = omega (arith, length-addP K p (scaleP K c (addP K p q)), length-scaleP K c (addP K p q), length-addP K p q)
+
+  pub length-unfolded : (n c : ℕ) (p q : List ℕ) → length p ≡ n → length q ≡ n → length (unfolded K c p q) ≡ n + n
+  length-unfolded n c p q ep eq =
+      omega (arith, length-append (addP K p (scaleP K c (addP K p q))) (addP K p q), length-lower n c p q ep eq, length-addP K p q)
+
+module _ (K : Ops) (T : ℕ → ℕ → ℕ) where
+  pub length-transform : (j : ℕ) (v : ℕ → ℕ) (d : List ℕ) → length d ≡ 2 ^ j → length (transform K T j v d) ≡ 2 ^ j
+  length-transform zero v d e = e
+  length-transform (suc j) v d e =
+      let a : List ℕ = folded K j (v j) d in
+      let b : List ℕ = addP K (folded K j (v j) d) (drop (2 ^ j) d) in
+      omega (
+        arith,
+        length-append (transform K T j v a) (transform K T j (shifted K T j v) b),
+        length-transform j v a (length-folded K j (v j) d e),
+        length-transform j (shifted K T j v) b (length-upper K j (v j) d e),
+      )
+
+  pub length-inverse : (j : ℕ) (v : ℕ → ℕ) (g : List ℕ) → length g ≡ 2 ^ j → length (inverse K T j v g) ≡ 2 ^ j
+  length-inverse zero v g e = e
+  length-inverse (suc j) v g e =
+      let p : List ℕ = inverse K T j v (take (2 ^ j) g) in
+      let q : List ℕ = inverse K T j (shifted K T j v) (drop (2 ^ j) g) in
+      omega (
+        arith,
+        length-unfolded K (2 ^ j) (v j) p q (length-inverse j v (take (2 ^ j) g) (omega (arith, length-take (2 ^ j) g)))
+            (length-inverse j (shifted K T j v) (drop (2 ^ j) g) (omega (arith, length-drop (2 ^ j) g))),
+      )
+
+-- ---- only the images T i j and v j with i and j below the number of layers count
+
+module _ (K : Ops) (T S : ℕ → ℕ → ℕ) (m : ℕ) (same : (i j : ℕ) → i < m → j < m → T i j ≡ S i j) where
+  infixl 60 _⊕_
+  open Ops K using (_⊕_)
+
+  shifted-ext : (j : ℕ) → j < m → (u v : ℕ → ℕ) → ((i : ℕ) → i < suc j → u i ≡ v i) → (i : ℕ) → i < j → shifted K T j u i ≡ shifted K S j v i
+  shifted-ext j hj u v e i h = ap₂ _⊕_ (e i (omega arith)) (same j i hj (omega arith))
+
+  pub transform-ext : (j : ℕ) → j ≤ m → (u v : ℕ → ℕ) (d : List ℕ) → ((i : ℕ) → i < j → u i ≡ v i) → transform K T j u d ≡ transform K S j v d
+  transform-ext zero hj u v d e = refl
+  transform-ext (suc j) hj u v d e =
+      ap (λ (c : ℕ). transform K T j u (folded K j c d) ++ transform K T j (shifted K T j u) (addP K (folded K j c d) (drop (2 ^ j) d))) (e j (omega arith))
+      ∙ ap₂ _++_ (transform-ext j (omega arith) u v (folded K j (v j) d) (λ i h. e i (omega arith)))
+      (transform-ext j (omega arith) (shifted K T j u) (shifted K S j v) (addP K (folded K j (v j) d) (drop (2 ^ j) d)) (shifted-ext j hj u v e))
+
+  pub inverse-ext : (j : ℕ) → j ≤ m → (u v : ℕ → ℕ) (g : List ℕ) → ((i : ℕ) → i < j → u i ≡ v i) → inverse K T j u g ≡ inverse K S j v g
+  inverse-ext zero hj u v g e = refl
+  inverse-ext (suc j) hj u v g e =
+      ap (λ (c : ℕ). unfolded K c (inverse K T j u (take (2 ^ j) g)) (inverse K T j (shifted K T j u) (drop (2 ^ j) g))) (e j (omega arith))
+      ∙ ap₂ (unfolded K (v j)) (inverse-ext j (omega arith) u v (take (2 ^ j) g) (λ i h. e i (omega arith)))
+      (inverse-ext j (omega arith) (shifted K T j u) (shifted K S j v) (drop (2 ^ j) g) (shifted-ext j hj u v e))
+
+-- ---- each undoes the other
 
 module _ {K : Ops} (F : IsField K) where
   infixl 60 _⊕_
   infixl 70 _⊗_
-  open Ops K using (_⊕_, _⊗_, inv, Sym)
+  open Ops K using (_⊕_, _⊗_, Sym)
 
-  module _ (bs : List ℕ) where
-    pub length-transform : (j s : ℕ) (d : List ℕ) → length d ≡ 2 ^ j → length (transform K bs j s d) ≡ 2 ^ j
-    length-transform zero s d e = e
-    length-transform (suc j) s d e =
-        let t : ℕ = s ⊕ getD bs j 0 in
-        omega (
-          arith,
-          length-append (transform K bs j s (folded K bs j d s)) (transform K bs j t (folded K bs j d t)),
-          length-transform j s (folded K bs j d s) (length-folded F bs j d s e),
-          length-transform j t (folded K bs j d t) (length-folded F bs j d t e),
-        )
+  undo-right : (a b : ℕ) → a ⊕ b ⊕ b ≡ a
+  undo-right a b = simp (sums, F)
 
-    at-halves : (n : ℕ) (p q : List ℕ) (g : ℕ → ℕ) → length p ≡ n → ((i : ℕ) → i < n → getD p i 0 ≡ g i) → ((i : ℕ) → i < n → getD q i 0 ≡ g (i + n))
-        → (i : ℕ) → i < n + n → getD (p ++ q) i 0 ≡ g i
-    at-halves n p q g e hp hq i h = by (decLt i n)
-      where
-        by : Dec (i < n) → getD (p ++ q) i 0 ≡ g i
-        by (yes l) = List·getD-append p q 0 i (omega arith) ∙ hp i l
-        by (no m) =
-            ap (λ (k : ℕ). getD (p ++ q) k 0) {x = i} {y = length p + (i - n)} (omega arith) ∙ getD-append-add p q (i - n) 0 ∙ hq (i - n) (omega arith)
-            ∙ ap g {x = i - n + n} {y = i} (omega arith)
+  undo-left : (a b : ℕ) → a ⊕ (a ⊕ b) ≡ b
+  undo-left a b = simp (sums, F)
 
-    -- The transform gives the values
-    pub transform-at : (j : ℕ) → j ≤ length bs → (s : ℕ) (d : List ℕ) → length d ≡ 2 ^ j → (i : ℕ) → i < 2 ^ j → getD (transform K bs j s d) i 0 ≡ evalX K bs j d (s ⊕ elem K bs i)
-    transform-at zero hj s d e i h = ap (λ (k : ℕ). getD d k 0) {x = i} {y = 0} (omega arith)
-    transform-at (suc j) hj s d e i h =
-        let t : ℕ = s ⊕ getD bs j 0 in
-        at-halves (2 ^ j) (transform K bs j s (folded K bs j d s)) (transform K bs j t (folded K bs j d t)) (λ i. evalX K bs (suc j) d (s ⊕ elem K bs i))
-        (length-transform j s (folded K bs j d s) (length-folded F bs j d s e))
-        (λ i h. transform-at j (omega arith) s (folded K bs j d s) (length-folded F bs j d s e) i h ∙ sym (evalX-folded F bs j d s i h))
-        (λ i h. transform-at j (omega arith) t (folded K bs j d t) (length-folded F bs j d t e) i h ∙ sym (evalX-folded F bs j d t i h)
-        ∙ ap (evalX K bs (suc j) d) (sym (upper-point F bs j s i hj h)))
-        i (omega arith)
+  -- A list added twice is gone
+  pub addP-undo-right : (p q : List ℕ) → length p ≡ length q → addP K (addP K p q) q ≡ p
+  addP-undo-right [] [] e = refl
+  addP-undo-right [] (b ∷ q) e = absurd (omega arith)
+  addP-undo-right (a ∷ p) [] e = absurd (omega arith)
+  addP-undo-right (a ∷ p) (b ∷ q) e = ap₂ _∷_ (undo-right a b) (addP-undo-right p q (suc-inj e))
 
-  lower-entry : (a w h : ℕ) → a ⊕ w ⊗ h ⊕ w ⊗ h ≡ a
-  lower-entry a w h = simp (sums, F)
+  pub addP-undo-left : (p q : List ℕ) → length p ≡ length q → addP K p (addP K p q) ≡ q
+  addP-undo-left [] [] e = refl
+  addP-undo-left [] (b ∷ q) e = absurd (omega arith)
+  addP-undo-left (a ∷ p) [] e = absurd (omega arith)
+  addP-undo-left (a ∷ p) (b ∷ q) e = ap₂ _∷_ (undo-left a b) (addP-undo-left p q (suc-inj e))
 
-  upper-entry : (a b w v : ℕ) → Sym a → Sym b → Sym v → v ≢ 0 → a ⊕ w ⊗ (inv v ⊗ (a ⊕ b)) ⊕ (w ⊕ v) ⊗ (inv v ⊗ (a ⊕ b)) ≡ b
-  upper-entry a b w v sa sb sv n = combine F (⊗-inv F v (a ⊕ b) sv (F .sym-sum sa sb) n) (simp (ring, F))
+  -- One layer
+  pub unfolded-folded : (j c : ℕ) (d : List ℕ) → length d ≡ 2 ^ suc j → unfolded K c (folded K j c d) (addP K (folded K j c d) (drop (2 ^ j) d)) ≡ d
+  unfolded-folded j c d e =
+      let lo : List ℕ = take (2 ^ j) d in
+      let hi : List ℕ = drop (2 ^ j) d in
+      let a : List ℕ = folded K j c d in
+      let upper : addP K a (addP K a hi) ≡ hi = addP-undo-left a hi (omega (arith, length-folded K j c d e, length-drop (2 ^ j) d)) in
+      ap (λ (h : List ℕ). addP K a (scaleP K c h) ++ h) upper
+      ∙ ap (λ (l : List ℕ). l ++ hi) (addP-undo-right lo (scaleP K c hi) (omega (arith, length-scaleP K c hi, length-take (2 ^ j) d, length-drop (2 ^ j) d)))
+      ∙ take-append-drop (2 ^ j) d
 
-  -- Folding undoes unfolding, on each coset
-  folded-lower : (w v : ℕ) (p q : List ℕ) → length p ≡ length q → addP K (lowerHalf K w v p q) (scaleP K w (upperHalf K v p q)) ≡ p
-  folded-lower w v [] [] e = refl
-  folded-lower w v [] (b ∷ q) e = absurd (omega arith)
-  folded-lower w v (a ∷ p) [] e = absurd (omega arith)
-  folded-lower w v (a ∷ p) (b ∷ q) e = ap₂ _∷_ (lower-entry a w (inv v ⊗ (a ⊕ b))) (folded-lower w v p q (suc-inj e))
+  module _ (j c : ℕ) (p q : List ℕ) (ep : length p ≡ 2 ^ j) (eq : length q ≡ 2 ^ j) where
+    upper-half : drop (2 ^ j) (unfolded K c p q) ≡ addP K p q
+    upper-half = drop-at (addP K p (scaleP K c (addP K p q))) (addP K p q) (2 ^ j) (length-lower K (2 ^ j) c p q ep eq)
 
-  folded-upper : (w v : ℕ) (p q : List ℕ) → length p ≡ length q → All Sym p → All Sym q → Sym v → v ≢ 0
-      → addP K (lowerHalf K w v p q) (scaleP K (w ⊕ v) (upperHalf K v p q)) ≡ q
-  folded-upper w v [] [] e sp sq sv n = refl
-  folded-upper w v [] (b ∷ q) e sp sq sv n = absurd (omega arith)
-  folded-upper w v (a ∷ p) [] e sp sq sv n = absurd (omega arith)
-  folded-upper w v (a ∷ p) (b ∷ q) e sp sq sv n = ap₂ _∷_ (upper-entry a b w v (sp .0) (sq .0) sv n) (folded-upper w v p q (suc-inj e) (sp .1) (sq .1) sv n)
+    lower-half : take (2 ^ j) (unfolded K c p q) ≡ addP K p (scaleP K c (addP K p q))
+    lower-half = take-at (addP K p (scaleP K c (addP K p q))) (addP K p q) (2 ^ j) (length-lower K (2 ^ j) c p q ep eq)
 
-  length-upper : (n v : ℕ) (p q : List ℕ) → length p ≡ n → length q ≡ n → length (upperHalf K v p q) ≡ n
-  length-upper n v p q ep eq = omega (arith, length-scaleP K (inv v) (addP K p q), length-addP K p q)
+    pub folded-unfolded : folded K j c (unfolded K c p q) ≡ p
+    folded-unfolded =
+        ap₂ (λ (x y : List ℕ). addP K x (scaleP K c y)) lower-half upper-half
+        ∙ addP-undo-right p (scaleP K c (addP K p q)) (omega (arith, length-scaleP K c (addP K p q), length-addP K p q))
 
-  length-lower : (n w v : ℕ) (p q : List ℕ) → length p ≡ n → length q ≡ n → length (lowerHalf K w v p q) ≡ n
-  length-lower n w v p q ep eq =
-      omega (arith, length-addP K p (scaleP K w (upperHalf K v p q)), length-scaleP K w (upperHalf K v p q), length-upper n v p q ep eq)
+    pub upper-unfolded : addP K (folded K j c (unfolded K c p q)) (drop (2 ^ j) (unfolded K c p q)) ≡ q
+    upper-unfolded = ap₂ (addP K) folded-unfolded upper-half ∙ addP-undo-left p q (ep ∙ sym eq)
 
-  module _ (bs : List ℕ) (sb : All Sym bs) (nz : (j : ℕ) → j < length bs → W K bs j (getD bs j 0) ≢ 0) where
-    pub length-inverse : (j s : ℕ) (g : List ℕ) → length g ≡ 2 ^ j → length (inverse K bs j s g) ≡ 2 ^ j
-    length-inverse zero s g e = e
-    length-inverse (suc j) s g e =
-        let t : ℕ = s ⊕ getD bs j 0 in
-        let w : ℕ = W K bs j s in
-        let v : ℕ = W K bs j (getD bs j 0) in
-        let p : List ℕ = inverse K bs j s (take (2 ^ j) g) in
-        let q : List ℕ = inverse K bs j t (drop (2 ^ j) g) in
-        let ep : length p ≡ 2 ^ j = length-inverse j s (take (2 ^ j) g) (omega (arith, length-take (2 ^ j) g)) in
-        let eq : length q ≡ 2 ^ j = length-inverse j t (drop (2 ^ j) g) (omega (arith, length-drop (2 ^ j) g)) in
-        omega (arith, length-append (lowerHalf K w v p q) (upperHalf K v p q), length-lower (2 ^ j) w v p q ep eq, length-upper (2 ^ j) v p q ep eq)
+  module _ (T : ℕ → ℕ → ℕ) where
+    pub inverse-transform : (j : ℕ) (v : ℕ → ℕ) (d : List ℕ) → length d ≡ 2 ^ j → inverse K T j v (transform K T j v d) ≡ d
+    inverse-transform zero v d e = refl
+    inverse-transform (suc j) v d e =
+        let a : List ℕ = folded K j (v j) d in
+        let b : List ℕ = addP K (folded K j (v j) d) (drop (2 ^ j) d) in
+        let va : List ℕ = transform K T j v a in
+        let vb : List ℕ = transform K T j (shifted K T j v) b in
+        let la : length va ≡ 2 ^ j = length-transform K T j v a (length-folded K j (v j) d e) in
+        ap₂ (λ (x y : List ℕ). unfolded K (v j) (inverse K T j v x) (inverse K T j (shifted K T j v) y)) (take-at va vb (2 ^ j) la) (drop-at va vb (2 ^ j) la)
+        ∙ ap₂ (unfolded K (v j)) (inverse-transform j v a (length-folded K j (v j) d e)) (inverse-transform j (shifted K T j v) b (length-upper K j (v j) d e))
+        ∙ unfolded-folded j (v j) d e
 
-    pub inverse-sym : (j s : ℕ) (g : List ℕ) → Sym s → All Sym g → All Sym (inverse K bs j s g)
-    inverse-sym zero s g ss sg = sg
-    inverse-sym (suc j) s g ss sg =
-        let b : ℕ = getD bs j 0 in
-        let sbj : Sym b = getD-sym F bs j sb in
-        let sw : Sym (W K bs j s) = W-sym F bs sb j s ss in
-        let sv : Sym (W K bs j b) = W-sym F bs sb j b sbj in
-        let sp : All Sym (inverse K bs j s (take (2 ^ j) g)) = inverse-sym j s (take (2 ^ j) g) ss (All-take Sym (2 ^ j) g sg) in
-        let sq : All Sym (inverse K bs j (s ⊕ b) (drop (2 ^ j) g)) = inverse-sym j (s ⊕ b) (drop (2 ^ j) g) (F .sym-sum ss sbj) (All-drop Sym (2 ^ j) g sg) in
-        search (elements, All-append, addP-sym, scaleP-sym) depth 8
-
-    -- One level: the coefficients folded on the two cosets are those that were unfolded
-    refolded : (j : ℕ) → j < length bs → (s : ℕ) (p q : List ℕ) → Sym s → length p ≡ 2 ^ j → length q ≡ 2 ^ j → All Sym p → All Sym q
-        → (folded K bs j (unfolded K (W K bs j s) (W K bs j (getD bs j 0)) p q) s ≡ p)
-        × (folded K bs j (unfolded K (W K bs j s) (W K bs j (getD bs j 0)) p q) (s ⊕ getD bs j 0) ≡ q)
-    refolded j hj s p q ss ep eq sp sq = (
-      parts w ∙ folded-lower w v p q (ep ∙ sym eq),
-      parts (W K bs j (s ⊕ b)) ∙ ap (λ (u : ℕ). addP K lo (scaleP K u hi)) (vanish-sum F (take j bs) s b)
-          ∙ folded-upper w v p q (ep ∙ sym eq) sp sq (W-sym F bs sb j b (getD-sym F bs j sb)) (nz j hj),
-    )
-      where
-        b : ℕ
-        b = getD bs j 0
-
-        w : ℕ
-        w = W K bs j s
-
-        v : ℕ
-        v = W K bs j b
-
-        lo : List ℕ
-        lo = lowerHalf K w v p q
-
-        hi : List ℕ
-        hi = upperHalf K v p q
-
-        parts : (u : ℕ) → addP K (take (2 ^ j) (lo ++ hi)) (scaleP K u (drop (2 ^ j) (lo ++ hi))) ≡ addP K lo (scaleP K u hi)
-        parts u =
-            ap₂ (λ (x y : List ℕ). addP K x (scaleP K u y)) (take-at lo hi (2 ^ j) (length-lower (2 ^ j) w v p q ep eq))
-            (drop-at lo hi (2 ^ j) (length-lower (2 ^ j) w v p q ep eq))
-
-    -- The transform undoes the inverse
-    pub transform-inverse : (j : ℕ) → j ≤ length bs → (s : ℕ) (g : List ℕ) → Sym s → length g ≡ 2 ^ j → All Sym g → transform K bs j s (inverse K bs j s g) ≡ g
-    transform-inverse zero hj s g ss e sg = refl
-    transform-inverse (suc j) hj s g ss e sg =
-        let t : ℕ = s ⊕ getD bs j 0 in
-        let st : Sym t = F .sym-sum ss (getD-sym F bs j sb) in
-        let g₁ : List ℕ = take (2 ^ j) g in
-        let g₂ : List ℕ = drop (2 ^ j) g in
-        let e₁ : length g₁ ≡ 2 ^ j = omega (arith, length-take (2 ^ j) g) in
-        let e₂ : length g₂ ≡ 2 ^ j = omega (arith, length-drop (2 ^ j) g) in
-        let s₁ : All Sym g₁ = All-take Sym (2 ^ j) g sg in
-        let s₂ : All Sym g₂ = All-drop Sym (2 ^ j) g sg in
-        let r = refolded j hj s (inverse K bs j s g₁) (inverse K bs j t g₂) ss (length-inverse j s g₁ e₁) (length-inverse j t g₂ e₂) (inverse-sym j s g₁ ss s₁) (inverse-sym j t g₂ st s₂) in
-        ap₂ (λ (x y : List ℕ). transform K bs j s x ++ transform K bs j t y) (r .0) (r .1)
-        ∙ ap₂ _++_ (transform-inverse j (omega arith) s g₁ ss e₁ s₁) (transform-inverse j (omega arith) t g₂ st e₂ s₂)
+    pub transform-inverse : (j : ℕ) (v : ℕ → ℕ) (g : List ℕ) → length g ≡ 2 ^ j → transform K T j v (inverse K T j v g) ≡ g
+    transform-inverse zero v g e = refl
+    transform-inverse (suc j) v g e =
+        let lo : List ℕ = take (2 ^ j) g in
+        let hi : List ℕ = drop (2 ^ j) g in
+        let el : length lo ≡ 2 ^ j = omega (arith, length-take (2 ^ j) g) in
+        let eh : length hi ≡ 2 ^ j = omega (arith, length-drop (2 ^ j) g) in
+        let p : List ℕ = inverse K T j v lo in
+        let q : List ℕ = inverse K T j (shifted K T j v) hi in
+        let ep : length p ≡ 2 ^ j = length-inverse K T j v lo el in
+        let eq : length q ≡ 2 ^ j = length-inverse K T j (shifted K T j v) hi eh in
+        ap₂ (λ (x y : List ℕ). transform K T j v x ++ transform K T j (shifted K T j v) y) (folded-unfolded j (v j) p q ep eq) (upper-unfolded j (v j) p q ep eq)
+        ∙ ap₂ _++_ (transform-inverse j v lo el) (transform-inverse j (shifted K T j v) hi eh)
         ∙ take-append-drop (2 ^ j) g
 
-    -- The coefficients of the polynomial with given values on the coset of s
-    pub record OnCoset (j s : ℕ) (g : ℕ → ℕ) : Type 0 where
-      pub coeffs : List ℕ
-      pub count : length coeffs ≡ 2 ^ j
-      pub elements : All Sym coeffs
-      pub values : (i : ℕ) → i < 2 ^ j → evalX K bs j coeffs (s ⊕ elem K bs i) ≡ g i
+  -- ---- symbols
 
-    -- Every function on a coset of the first 2 ^ j elements is given by 2 ^ j coefficients
-    pub evalX-exists : (j : ℕ) → j ≤ length bs → (s : ℕ) (g : ℕ → ℕ) → Sym s → ((i : ℕ) → i < 2 ^ j → Sym (g i)) → OnCoset j s g
-    evalX-exists j hj s g ss sg =
-        record {
-          coeffs = d;
-          count = ld;
-          elements = inverse-sym j s l ss (All-tab Sym (2 ^ j) g sg);
-          values = λ i h. sym (transform-at bs j hj s d ld i h)
-              ∙ ap (λ (l : List ℕ). getD l i 0) (transform-inverse j hj s l ss (length-tab (2 ^ j) g) (All-tab Sym (2 ^ j) g sg)) ∙ getD-tab (2 ^ j) g i 0 h;
-        }
-      where
-        l : List ℕ
-        l = tab (2 ^ j) g
+  pub folded-sym : (j c : ℕ) (d : List ℕ) → Sym c → All Sym d → All Sym (folded K j c d)
+  folded-sym j c d sc sd =
+      addP-sym F (take (2 ^ j) d) (scaleP K c (drop (2 ^ j) d)) (All-take Sym (2 ^ j) d sd) (scaleP-sym F c (drop (2 ^ j) d) sc (All-drop Sym (2 ^ j) d sd))
 
-        d : List ℕ
-        d = inverse K bs j s l
+  pub upper-sym : (j c : ℕ) (d : List ℕ) → Sym c → All Sym d → All Sym (addP K (folded K j c d) (drop (2 ^ j) d))
+  upper-sym j c d sc sd = addP-sym F (folded K j c d) (drop (2 ^ j) d) (folded-sym j c d sc sd) (All-drop Sym (2 ^ j) d sd)
 
-        ld : length d ≡ 2 ^ j
-        ld = length-inverse j s l (length-tab (2 ^ j) g)
+  pub unfolded-sym : (c : ℕ) (p q : List ℕ) → Sym c → All Sym p → All Sym q → All Sym (unfolded K c p q)
+  unfolded-sym c p q sc sp sq = search (All-append, addP-sym, scaleP-sym) depth 8
+
+  module _ (T : ℕ → ℕ → ℕ) (m : ℕ) (table : (i j : ℕ) → i < m → j < m → Sym (T i j)) where
+    shifted-sym : (j : ℕ) → j < m → (v : ℕ → ℕ) → ((i : ℕ) → i < suc j → Sym (v i)) → (i : ℕ) → i < j → Sym (shifted K T j v i)
+    shifted-sym j hj v sv i h = F .sym-sum (sv i (omega arith)) (table j i hj (omega arith))
+
+    pub transform-sym : (j : ℕ) → j ≤ m → (v : ℕ → ℕ) (d : List ℕ) → ((i : ℕ) → i < j → Sym (v i)) → All Sym d → All Sym (transform K T j v d)
+    transform-sym zero hj v d sv sd = sd
+    transform-sym (suc j) hj v d sv sd =
+        let a : List ℕ = folded K j (v j) d in
+        let b : List ℕ = addP K (folded K j (v j) d) (drop (2 ^ j) d) in
+        All-append Sym (transform K T j v a) (transform K T j (shifted K T j v) b)
+        (transform-sym j (omega arith) v a (λ i h. sv i (omega arith)) (folded-sym j (v j) d (sv j (omega arith)) sd))
+        (transform-sym j (omega arith) (shifted K T j v) b (shifted-sym j hj v sv) (upper-sym j (v j) d (sv j (omega arith)) sd))
+
+    pub inverse-sym : (j : ℕ) → j ≤ m → (v : ℕ → ℕ) (g : List ℕ) → ((i : ℕ) → i < j → Sym (v i)) → All Sym g → All Sym (inverse K T j v g)
+    inverse-sym zero hj v g sv sg = sg
+    inverse-sym (suc j) hj v g sv sg =
+        unfolded-sym (v j) (inverse K T j v (take (2 ^ j) g)) (inverse K T j (shifted K T j v) (drop (2 ^ j) g)) (sv j (omega arith))
+        (inverse-sym j (omega arith) v (take (2 ^ j) g) (λ i h. sv i (omega arith)) (All-take Sym (2 ^ j) g sg))
+        (inverse-sym j (omega arith) (shifted K T j v) (drop (2 ^ j) g) (shifted-sym j hj v sv) (All-drop Sym (2 ^ j) g sg))

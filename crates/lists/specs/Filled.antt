@@ -1,0 +1,50 @@
+-- A loop that writes one place after the other, by what each place holds. Assumes nothing.
+use mathlib.Core.Path.{_≡_, refl, sym, ap, _∙_}
+use mathlib.Core.Logic.{_⊎_, inl, inr}
+use mathlib.Core.List.{List}
+use Prim.Native.Nat.{ℕ, _+_, _-_, _≤_, _<_}
+use native.Mathlib.Decide.{decLt}
+use native.Mathlib.Omega.{arith}
+use lib.ListN.{length, getD, set, length-set}
+use lib.Seq.{ext-getD, getD-set-same, getD-set-other}
+use Rattle.lists.specs.Tables.{tab, length-tab, getD-tab}
+
+-- the list is `old` with f 0, f 1, .. at the n places from a on
+pub record Filled (a n : ℕ) (f : ℕ → ℕ) (old new : List ℕ) : Type 0 where
+  pub kept : length new ≡ length old
+  pub inside : (j : ℕ) → j < n → getD new (a + j) 0 ≡ f j
+  pub outside : (p : ℕ) → (p < a) ⊎ (a + n ≤ p) → getD new p 0 ≡ getD old p 0
+
+pub filled-none : (a : ℕ) (f : ℕ → ℕ) (old : List ℕ) → Filled a 0 f old old
+filled-none a f old = record { kept = refl; inside = λ j h. absurd (omega arith); outside = λ p h. refl }
+
+-- one more place
+pub filled-next : {a n : ℕ} {f : ℕ → ℕ} {old new : List ℕ} (x : ℕ) → a + n < length old → x ≡ f n → Filled a n f old new → Filled a (n + 1) f old (set new (a + n) x)
+filled-next {a} {n} {f} {old} {new} x h e s =
+    record {
+      kept = length-set new (a + n) x ∙ s .kept;
+      inside = λ j k. at j k (decLt j n);
+      outside = λ p k. getD-set-other new (a + n) p x 0 (apart p k) ∙ s .outside p (wider p k);
+    }
+  where
+    at : (j : ℕ) → j < n + 1 → Dec (j < n) → getD (set new (a + n) x) (a + j) 0 ≡ f j
+    at j k (yes l) = getD-set-other new (a + n) (a + j) x 0 (λ q. omega arith) ∙ s .inside j l
+    at j k (no l) =
+        let same : j ≡ n = omega arith in
+        ap (λ (i : ℕ). getD (set new (a + n) x) (a + i) 0) same ∙ getD-set-same new (a + n) x 0 (omega (arith, s .kept)) ∙ e ∙ ap f (sym same)
+
+    apart : (p : ℕ) → (p < a) ⊎ (a + (n + 1) ≤ p) → p ≡ a + n → ⊥
+    apart p (inl k) q = omega arith
+    apart p (inr k) q = omega arith
+
+    wider : (p : ℕ) → (p < a) ⊎ (a + (n + 1) ≤ p) → (p < a) ⊎ (a + n ≤ p)
+    wider p (inl k) = inl k
+    wider p (inr k) = inr (omega arith)
+
+-- a list that is filled whole
+pub filled-all : {n : ℕ} {f : ℕ → ℕ} {old new : List ℕ} → length old ≡ n → Filled 0 n f old new → new ≡ tab n f
+filled-all {n} {f} {old} {new} e s =
+    ext-getD 0 new (tab n f) (s .kept ∙ e ∙ sym (length-tab n f))
+    (λ i h. let start : 0 + i ≡ i = omega arith in
+    let l : i < n = omega (arith, s .kept) in
+    ap (λ (k : ℕ). getD new k 0) (sym start) ∙ s .inside i l ∙ sym (getD-tab n f i 0 l))
