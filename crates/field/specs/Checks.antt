@@ -9,6 +9,7 @@ use lib.Pow.{pow-mono}
 use Rattle.lists.specs.Answers.{Checks, Passes}
 use Rattle.field.specs.Binary.{degree, Irreducible}
 use Rattle.field.specs.Decide.{irreducible-stable}
+use Rattle.field.specs.Degree.{degree-right, degree-above, degree-below}
 use Rattle.field.specs.Division.{degree-high}
 use Rattle.field.specs.Products.{Sized}
 use Rattle.field.specs.declared.Field.{Field}
@@ -37,6 +38,12 @@ modulus-passed m (inl a) = absurd (omega arith)
 modulus-passed m (inr (out, inl a)) = absurd (omega arith)
 modulus-passed m (inr (out, inr a)) =
     record { low = not-less (λ h. out (inl h)); high = omega (arith, not-less (λ h. out (inr h))); irreducible = irreducible-stable m (a .0) }
+
+-- its degree is 3 to 16
+pub degree-range : (m : ℕ) → GoodModulus m → (3 ≤ degree m) × (degree m ≤ 16)
+degree-range m g =
+    let d = degree-right m (omega (arith, g .low)) in
+    (degree-above 3 d (g .low), omega (arith, degree-below 17 d (g .high)))
 
 pub good-passes : (m : ℕ) → GoodModulus m → Passes (modulusChecks m)
 good-passes m g = inr (in-range (g .low) (g .high), inr ((λ f. f (g .irreducible)), refl))
