@@ -8,11 +8,12 @@ use Rattle.poly.specs.Poly.{eval, addP, scaleP}
 use Rattle.poly.specs.Span.{elem}
 use Rattle.proximity.specs.Dim.{half, colDim}
 
--- The list e ∷ s in two: all but the last entry, and the last
+-- All but the last entry of e ∷ s
 abbrev pub front : ℕ → List ℕ → List ℕ
 front e [] = []
 front e (d ∷ s) = e ∷ front d s
 
+-- The last entry of e ∷ s
 abbrev pub final : ℕ → List ℕ → ℕ
 final e [] = e
 final e (d ∷ s) = final d s
@@ -22,14 +23,16 @@ abbrev pub wide : ℕ → ℕ
 wide k = 2 ^ (colDim k - 3)
 
 module _ (K : Ops) where
-  -- Q(x, y) as a polynomial in y, as one in x of m coefficients, and its value
+  -- Q(x, y) as a polynomial in y
   abbrev pub atX : List (List ℕ) → ℕ → List ℕ
   atX Q x = map (λ s. eval K s x) Q
 
+  -- Q(x, y) as a polynomial in x, of m coefficients
   abbrev pub atY : ℕ → List (List ℕ) → ℕ → List ℕ
   atY m [] y = replicate m 0
   atY m (s ∷ Q) y = addP K s (scaleP K y (atY m Q y))
 
+  -- The value of Q(x, y)
   abbrev pub eval2 : List (List ℕ) → ℕ → ℕ → ℕ
   eval2 Q x y = eval K (atX Q x) y
 

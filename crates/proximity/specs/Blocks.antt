@@ -9,20 +9,23 @@ use borrow.Author.Tests.{lt-ltb, le-ltb}
 use lib.ListN.{length, getD}
 use lib.Seq.{ext-getD}
 use Rattle.lists.specs.Pick.{pick-true, pick-false}
-use Rattle.lists.specs.Tables.{part, part-fits, length-part, getD-part, getD-insert, getD-insert-before, getD-insert-after}
-use Rattle.proximity.specs.Dim.{half, colDim}
+use Rattle.lists.specs.Tables.{flat, part, flat-part, flat-ext, part-fits, length-part, getD-part, getD-insert, getD-insert-before, getD-insert-after}
+use Rattle.proximity.specs.Dim.{half, rowDim, colDim}
 use Rattle.proximity.specs.Proof.{slot, row, block}
 use Rattle.proximity.specs.Subspaces.{pow-rows, pow-eight}
 use Rattle.proximity.specs.Layout.{length-row, length-block, slot-inside}
 
 module _ (k : ℕ) (w π : List ℕ) (r j : ℕ) where
   pub block-before : j < slot r → block k w π r j ≡ part (2 ^ half k) (7 * r + j) π
+  unfolding block
   block-before h = pick-true _ _ (lt-ltb j (slot r) h)
 
   pub block-after : slot r < j → block k w π r j ≡ part (2 ^ half k) (7 * r + (j - 1)) π
+  unfolding block
   block-after h = pick-false _ _ (le-ltb j (slot r) (omega arith)) ∙ pick-true _ _ (lt-ltb (slot r) j h)
 
   pub block-at : j ≡ slot r → block k w π r j ≡ part (2 ^ half k) r w
+  unfolding block
   block-at e = pick-false _ _ (le-ltb j (slot r) (omega arith)) ∙ pick-false _ _ (le-ltb (slot r) j (omega arith))
 
 blocks-sum : (m i p s d : ℕ) → p ≡ s + d → p * m + i ≡ s * m + (d * m + i)
@@ -82,3 +85,14 @@ module _ (k : ℕ) (w π : List ℕ) (lw : length w ≡ 2 ^ k) (lπ : 7 * 2 ^ k 
           at i h =
               ap (λ (x : ℕ). getD (row k w π r) (x * 2 ^ half k + i) 0) {x = j} {y = slot r} (omega arith)
               ∙ getD-insert (slot r * 2 ^ half k) i (part (2 ^ half k) r w) (part (7 * 2 ^ half k) r π) 0 in-slot (omega (arith, lb))
+
+module _ (k : ℕ) (w π : List ℕ) (lw : length w ≡ 2 ^ k) (lπ : 7 * 2 ^ k ≤ length π) (r : ℕ) (hr : r < 2 ^ colDim k) where
+  -- A row is the run of its eight blocks
+  pub row-blocks : row k w π r ≡ flat 8 (block k w π r)
+  row-blocks =
+      sym (flat-part 8 (2 ^ half k) (row k w π r) (length-row k w π lw lπ r hr ∙ pow-eight (half k)))
+      ∙ flat-ext 8 _ _ (λ j h. row-block k w π lw lπ r hr j h)
+
+  -- A word with the same blocks is the row
+  pub row-of-blocks : (v : List ℕ) → length v ≡ 2 ^ rowDim k → ((j : ℕ) → j < 8 → part (2 ^ half k) j v ≡ block k w π r j) → v ≡ row k w π r
+  row-of-blocks v lv e = sym (flat-part 8 (2 ^ half k) v (lv ∙ pow-eight (half k))) ∙ flat-ext 8 _ _ e ∙ sym row-blocks

@@ -18,7 +18,7 @@ use Rattle.poly.specs.Poly.{eval}
 use Rattle.poly.specs.Span.{elem}
 use Rattle.poly.specs.Codeword.{Codeword}
 use Rattle.proximity.specs.Dim.{dim, S}
-use Rattle.proximity.specs.Verifier.{Row, Column, lineOf, bitsLeft, Accepts, Place, inWord, inProof, rowPlace, colPlace, positions}
+use Rattle.proximity.specs.Verifier.{Row, Column, lineOf, bitsLeft, Accepts, Place, inWord, inProof, cell, rowPlace, colPlace, positions}
 use Rattle.proximity.specs.Steps.{accepts-leaf, positions-leaf, positions-row, positions-column}
 
 -- ---- polynomials of one and of two coefficients
@@ -171,7 +171,7 @@ unswapped x a b c m = ⊎-elim (λ t. Memᴰ·append-left c (Memᴰ·append-righ
 
 -- In the order of the row's positions
 row-four : (coin : ℕ) → lineOf 7 coin ≡ Row 4 → positions (dim 7) coin ≡ tab 32 (λ i. inProof (224 + i)) ++ tab 8 (λ i. inWord (32 + i)) ++ tab 24 (λ i. inProof (256 + i))
-unfolding pick
+unfolding pick cell
 row-four coin e = positions-row 7 (omega arith) coin 4 e ∙ ap (map (rowPlace 7 (S 6) 4)) (positions-leaf 6 (omega arith) (bitsLeft 7 coin))
 
 pub p8 : P8
@@ -191,5 +191,5 @@ P9 =
     → positions (dim 7) coin ≡ (inProof 23 ∷ inProof 79 ∷ inProof 135 ∷ inWord 31 ∷ []) ++ tab 12 (λ i. inProof (56 * (4 + i) + 31))
 
 pub p9 : P9
-unfolding pick
+unfolding pick cell
 p9 coin e = positions-column 7 (omega arith) coin 31 e ∙ ap (map (colPlace 7 (S 6) (S 4) 31)) (positions-leaf 4 (omega arith) (bitsLeft 7 coin))

@@ -42,9 +42,10 @@ dim-within (suc n) k l = dim-step n k l (dim-within n) (decLe k 6)
 unfoldable pub dim : (k : ℕ) → Dim k
 dim k = dim-within k k (omega arith)
 
--- S(k) and R(k)
+-- S(k), the length of a proof
 abbrev pub S : ℕ → ℕ
 S k = size (dim k)
 
+-- R(k), the number of coin bits
 abbrev pub R : ℕ → ℕ
 R k = coinBits (dim k)

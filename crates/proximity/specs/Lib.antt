@@ -22,3 +22,4 @@ pub mod NoRepeats
 pub mod Coverage
 pub mod Steps
 pub mod Cases
+pub mod Places

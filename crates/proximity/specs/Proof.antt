@@ -26,7 +26,7 @@ abbrev pub row : ℕ → List ℕ → List ℕ → ℕ → List ℕ
 row k w π r = insert (slot r * 2 ^ half k) (part (2 ^ half k) r w) (part (7 * 2 ^ half k) r π)
 
 -- Block j of row r: the word's block r at the slot, else one of the seven stored blocks
-abbrev pub block : ℕ → List ℕ → List ℕ → ℕ → ℕ → List ℕ
+unfoldable pub block : ℕ → List ℕ → List ℕ → ℕ → ℕ → List ℕ
 block k w π r j =
     pick (ltb j (slot r)) (part (2 ^ half k) (7 * r + j) π)
     (pick (ltb (slot r) j) (part (2 ^ half k) (7 * r + (j - 1)) π) (part (2 ^ half k) r w))

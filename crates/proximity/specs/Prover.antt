@@ -44,6 +44,10 @@ module _ {K : Ops} (F : IsField K) where
     cols-right : (a : ℕ) → a < 2 ^ (half k + 2) → column k w π a ≡ wordOf K (colDim k) (colBasis K k b) (colPoly K k b Q a)
     cols-right a h = columns-follow F s rows cols b B P lP sP w π rows-right a h
 
+    -- The columns are codewords too: what the inner prover is called on
+    pub columns-codewords : (a : ℕ) → a < 2 ^ (half k + 2) → Codeword K (colDim k) (colBasis K k b) (column k w π a)
+    columns-codewords a h = let H = col-honest F s rows cols b B P lP sP a h in (colPoly K k b Q a, H .count, H .elements, cols-right a h)
+
     -- With the inner proofs right, so is the proof
     node-right : ((r : ℕ) → r < 2 ^ colDim k → rowProof k (size rows) π r ≡ proofOf K rows (rowBasis K k b r) (rowPoly K k b Q r))
         → ((a : ℕ) → a < 2 ^ (half k + 2) → colProof k (size rows) (size cols) π a ≡ proofOf K cols (colBasis K k b) (colPoly K k b Q a))

@@ -25,12 +25,15 @@ use Rattle.proximity.specs.Lines.{line-cases}
 
 module _ (k r i : ℕ) where
   pub cell-before : i < slot r * 2 ^ half k → cell k r i ≡ inProof (r * (7 * 2 ^ half k) + i)
+  unfolding cell
   cell-before h = pick-true _ _ (lt-ltb i (slot r * 2 ^ half k) h)
 
   pub cell-in : slot r * 2 ^ half k ≤ i → i < slot r * 2 ^ half k + 2 ^ half k → cell k r i ≡ inWord (r * 2 ^ half k + (i - slot r * 2 ^ half k))
+  unfolding cell
   cell-in g h = pick-false _ _ (le-ltb i (slot r * 2 ^ half k) g) ∙ pick-true _ _ (lt-ltb i (slot r * 2 ^ half k + 2 ^ half k) h)
 
   pub cell-after : slot r * 2 ^ half k + 2 ^ half k ≤ i → cell k r i ≡ inProof (r * (7 * 2 ^ half k) + (i - 2 ^ half k))
+  unfolding cell
   cell-after h = pick-false _ _ (le-ltb i (slot r * 2 ^ half k) (omega arith)) ∙ pick-false _ _ (le-ltb i (slot r * 2 ^ half k + 2 ^ half k) h)
 
   -- By the three cases

@@ -13,6 +13,7 @@ use Rattle.proximity.specs.Proof.{slot, row, column, rowProof, colProof}
 
 -- ---- the line that a coin takes
 
+-- A row or a column, by its number
 pub data Line : Type 0 where
   Row : ℕ → Line
   Column : ℕ → Line
@@ -25,6 +26,7 @@ lineOf k coin = pick (eqb (coin % 2) 0) (Row (coin / 2 % 2 ^ colDim k)) (Column 
 unfoldable pub bitsLeft : ℕ → ℕ → ℕ
 bitsLeft k coin = pick (eqb (coin % 2) 0) (coin / 2 / 2 ^ colDim k) (coin / 2 / 2 ^ (half k + 2))
 
+-- One thing for a row, another for a column
 abbrev pub byLine {ℓ} : {A : Type ℓ} → Line → (ℕ → A) → (ℕ → A) → A
 byLine (Row r) f g = f r
 byLine (Column a) f g = g a
@@ -47,7 +49,7 @@ pub data Place : Type 0 where
   inProof : ℕ → Place
 
 -- Where the layout keeps position i of row r: before, in or after the block that lies in the word
-abbrev pub cell : ℕ → ℕ → ℕ → Place
+unfoldable pub cell : ℕ → ℕ → ℕ → Place
 cell k r i =
     pick (ltb i (slot r * 2 ^ half k)) (inProof (r * (7 * 2 ^ half k) + i))
     (pick (ltb i (slot r * 2 ^ half k + 2 ^ half k)) (inWord (r * 2 ^ half k + (i - slot r * 2 ^ half k))) (inProof (r * (7 * 2 ^ half k) + (i - 2 ^ half k))))
