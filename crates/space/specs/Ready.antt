@@ -47,7 +47,7 @@ ready-setting {m} {bs} s =
       inverses = refl;
     }
 
-module _ {m : ℕ} {bs : List ℕ} {c : Checked} where
+module _ (m : ℕ) (bs : List ℕ) (c : Checked) where
   pub ready : Settled m bs c → c .refusal ≡ 0 → Ready m bs (c .setting)
   ready (inl (p, z, e)) h = subst (Ready m bs) (sym e) (ready-setting (sound m bs p))
   ready (inr ((l, a), e)) h = absurd (omega arith)
