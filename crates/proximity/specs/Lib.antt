@@ -5,6 +5,7 @@ pub mod Spaces
 pub mod Bivariate
 pub mod Proof
 pub mod Verifier
+pub mod ByLine
 pub mod Subspaces
 pub mod TwoVariables
 pub mod BaseDigits
@@ -21,4 +22,5 @@ pub mod Prover
 pub mod NoRepeats
 pub mod Coverage
 pub mod Steps
+pub mod LineLaws
 pub mod Cases
