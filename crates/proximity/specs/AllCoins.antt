@@ -14,7 +14,8 @@ use Rattle.poly.specs.Codeword.{Basis, decode-unique}
 use Rattle.proximity.specs.Dim.{half, rowDim, colDim, Dim, leaf, node, size, coinBits}
 use Rattle.proximity.specs.Spaces.{rowBasis, colBasis}
 use Rattle.proximity.specs.Proof.{row, column, rowProof, colProof, Honest}
-use Rattle.proximity.specs.Verifier.{Line, byLine, Accepts}
+use Rattle.proximity.specs.declared.Line.{Line}
+use Rattle.proximity.specs.Verifier.{byLine, Accepts}
 use Rattle.proximity.specs.Subspaces.{row-basis, col-basis}
 use Rattle.proximity.specs.Layout.{length-row, length-rowProof, length-colProof}
 use Rattle.proximity.specs.Lines.{line-cases, rowCoin, colCoin, row-taken, column-taken, rowCoin-lt, colCoin-lt}

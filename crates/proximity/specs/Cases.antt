@@ -18,7 +18,10 @@ use Rattle.poly.specs.Poly.{eval}
 use Rattle.poly.specs.Span.{elem}
 use Rattle.poly.specs.Codeword.{Codeword}
 use Rattle.proximity.specs.Dim.{dim, S}
-use Rattle.proximity.specs.Verifier.{Row, Column, lineOf, bitsLeft, Accepts, Place, inWord, inProof, cell, rowPlace, colPlace, positions}
+use Rattle.proximity.specs.declared.Line.the-variants.{Row, Column}
+use Rattle.proximity.specs.declared.Place.{Place}
+use Rattle.proximity.specs.declared.Place.the-variants.{InWord, InProof}
+use Rattle.proximity.specs.Verifier.{lineOf, bitsLeft, Accepts, cell, rowPlace, colPlace, positions}
 use Rattle.proximity.specs.Steps.{accepts-leaf, positions-leaf, positions-row, positions-column}
 
 -- ---- polynomials of one and of two coefficients
@@ -155,7 +158,7 @@ p7 = (refl, refl, refl, refl)
 abbrev pub P8 : Type 0
 P8 =
     (coin : ℕ) → lineOf 7 coin ≡ Row 4
-    → (p : Place) → Among p (positions (dim 7) coin) ↔ Among p (tab 8 (λ i. inWord (32 + i)) ++ tab 56 (λ i. inProof (224 + i)))
+    → (p : Place) → Among p (positions (dim 7) coin) ↔ Among p (tab 8 (λ i. InWord (32 + i)) ++ tab 56 (λ i. InProof (224 + i)))
 
 swapped : {A : Type 0} (x : A) (a b c : List A) → Among x (a ++ b ++ c) → Among x (b ++ (a ++ c))
 swapped x a b c m = ⊎-elim first (λ t. Memᴰ·append-right b (Memᴰ·append-right a t)) (List·Memᴰ·append-cases (a ++ b) m)
@@ -170,15 +173,15 @@ unswapped x a b c m = ⊎-elim (λ t. Memᴰ·append-left c (Memᴰ·append-righ
     second t = ⊎-elim (λ u. Memᴰ·append-left c (Memᴰ·append-left b u)) (λ u. Memᴰ·append-right (a ++ b) u) (List·Memᴰ·append-cases a t)
 
 -- In the order of the row's positions
-row-four : (coin : ℕ) → lineOf 7 coin ≡ Row 4 → positions (dim 7) coin ≡ tab 32 (λ i. inProof (224 + i)) ++ tab 8 (λ i. inWord (32 + i)) ++ tab 24 (λ i. inProof (256 + i))
+row-four : (coin : ℕ) → lineOf 7 coin ≡ Row 4 → positions (dim 7) coin ≡ tab 32 (λ i. InProof (224 + i)) ++ tab 8 (λ i. InWord (32 + i)) ++ tab 24 (λ i. InProof (256 + i))
 unfolding pick cell
 row-four coin e = positions-row 7 (omega arith) coin 4 e ∙ ap (map (rowPlace 7 (S 6) 4)) (positions-leaf 6 (omega arith) (bitsLeft 7 coin))
 
 pub p8 : P8
 p8 coin e p =
-    let a : List Place = tab 32 (λ i. inProof (224 + i)) in
-    let b : List Place = tab 8 (λ i. inWord (32 + i)) in
-    let c : List Place = tab 24 (λ i. inProof (256 + i)) in (
+    let a : List Place = tab 32 (λ i. InProof (224 + i)) in
+    let b : List Place = tab 8 (λ i. InWord (32 + i)) in
+    let c : List Place = tab 24 (λ i. InProof (256 + i)) in (
       (λ m. swapped p a b c (subst (Among p) (row-four coin e) m)),
       λ m. subst (Among p) (sym (row-four coin e)) (unswapped p a b c m),
     )
@@ -188,7 +191,7 @@ p8 coin e p =
 abbrev pub P9 : Type 0
 P9 =
     (coin : ℕ) → lineOf 7 coin ≡ Column 31
-    → positions (dim 7) coin ≡ (inProof 23 ∷ inProof 79 ∷ inProof 135 ∷ inWord 31 ∷ []) ++ tab 12 (λ i. inProof (56 * (4 + i) + 31))
+    → positions (dim 7) coin ≡ (InProof 23 ∷ InProof 79 ∷ InProof 135 ∷ InWord 31 ∷ []) ++ tab 12 (λ i. InProof (56 * (4 + i) + 31))
 
 pub p9 : P9
 unfolding pick cell

@@ -5,6 +5,7 @@ pub mod Spaces
 pub mod Bivariate
 pub mod Proof
 pub mod Verifier
+pub mod ByLine
 pub mod Subspaces
 pub mod TwoVariables
 pub mod BaseDigits
@@ -21,5 +22,6 @@ pub mod Prover
 pub mod NoRepeats
 pub mod Coverage
 pub mod Steps
+pub mod LineLaws
 pub mod Cases
 pub mod Places

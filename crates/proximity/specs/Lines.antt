@@ -10,7 +10,9 @@ use lib.Dec.{eqb}
 use lib.Pow.{pow-add, pow-pos, pow-mono}
 use Rattle.lists.specs.Pick.{pick, pick-true, pick-false}
 use Rattle.proximity.specs.Dim.{half, colDim}
-use Rattle.proximity.specs.Verifier.{Line, Row, Column, lineOf, bitsLeft}
+use Rattle.proximity.specs.declared.Line.{Line}
+use Rattle.proximity.specs.declared.Line.the-variants.{Row, Column}
+use Rattle.proximity.specs.Verifier.{lineOf, bitsLeft}
 
 -- What holds of each row and each column with any bits left over holds of what a coin takes
 pub line-cases {ℓ} : (k coin : ℕ) (T : Line → ℕ → Type ℓ)

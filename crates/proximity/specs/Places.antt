@@ -8,13 +8,17 @@ use Rattle.field.specs.Laws.{Ops}
 use Rattle.proximity.specs.Dim.{rowDim, colDim, Dim, leaf, node, size, dim, S}
 use Rattle.proximity.specs.Tree.{dim-leaf, dim-node}
 use Rattle.proximity.specs.Spaces.{rowBasis, colBasis}
-use Rattle.proximity.specs.Verifier.{Line, Row, Column, lineOf, bitsLeft, byLine, Place, inWord, rowPlace, colPlace, positions, readAt}
+use Rattle.proximity.specs.declared.Line.{Line}
+use Rattle.proximity.specs.declared.Line.the-variants.{Row, Column}
+use Rattle.proximity.specs.declared.Place.{Place}
+use Rattle.proximity.specs.declared.Place.the-variants.{InWord}
+use Rattle.proximity.specs.Verifier.{lineOf, bitsLeft, byLine, rowPlace, colPlace, positions, readAt}
 use Rattle.proximity.specs.Lines.{line-cases}
 use Rattle.proximity.specs.Reads.{leafDim, leafBasis, reads}
 
 -- Position number i of those that the coin reads
 abbrev pub placeAt : {k : ℕ} → Dim k → ℕ → ℕ → Place
-placeAt (leaf s) coin i = inWord i
+placeAt (leaf s) coin i = InWord i
 placeAt (node {k = k} s rows cols) coin i =
     byLine (lineOf k coin) (λ r. rowPlace k (size rows) r (placeAt rows (bitsLeft k coin) i)) (λ a. colPlace k (size rows) (size cols) a (placeAt cols (bitsLeft k coin) i))
 
@@ -36,7 +40,7 @@ symbols-tab d w π coin = ap (map (readAt w π)) (positions-tab d coin) ∙ map-
 -- ---- one step at dimension k
 
 module _ (k coin : ℕ) where
-  pub placeAt-leaf : k ≤ 6 → (i : ℕ) → placeAt (dim k) coin i ≡ inWord i
+  pub placeAt-leaf : k ≤ 6 → (i : ℕ) → placeAt (dim k) coin i ≡ InWord i
   placeAt-leaf s i = ap (λ (d : Dim k). placeAt d coin i) (dim-leaf k s)
 
   pub leafDim-leaf : k ≤ 6 → leafDim (dim k) coin ≡ k

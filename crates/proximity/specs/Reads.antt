@@ -16,7 +16,9 @@ use Rattle.poly.specs.Codeword.{Codeword}
 use Rattle.proximity.specs.Dim.{half, rowDim, colDim, Dim, leaf, node, size}
 use Rattle.proximity.specs.Spaces.{rowBasis, colBasis}
 use Rattle.proximity.specs.Proof.{slot, row, column, rowProof, colProof}
-use Rattle.proximity.specs.Verifier.{lineOf, bitsLeft, byLine, Accepts, Place, inWord, inProof, cell, rowPlace, colPlace, positions, readAt}
+use Rattle.proximity.specs.declared.Place.{Place}
+use Rattle.proximity.specs.declared.Place.the-variants.{InWord, InProof}
+use Rattle.proximity.specs.Verifier.{lineOf, bitsLeft, byLine, Accepts, cell, rowPlace, colPlace, positions, readAt}
 use Rattle.proximity.specs.Subspaces.{pow-rows, pow-four, pow-eight}
 use Rattle.proximity.specs.Layout.{seven, slot-fits, length-row, length-block, slot-inside, length-rowProof, length-colProof}
 use Rattle.proximity.specs.Lines.{line-cases}
@@ -24,22 +26,22 @@ use Rattle.proximity.specs.Lines.{line-cases}
 -- ---- where a position of a row is kept
 
 module _ (k r i : ℕ) where
-  pub cell-before : i < slot r * 2 ^ half k → cell k r i ≡ inProof (r * (7 * 2 ^ half k) + i)
+  pub cell-before : i < slot r * 2 ^ half k → cell k r i ≡ InProof (r * (7 * 2 ^ half k) + i)
   unfolding cell
   cell-before h = pick-true _ _ (lt-ltb i (slot r * 2 ^ half k) h)
 
-  pub cell-in : slot r * 2 ^ half k ≤ i → i < slot r * 2 ^ half k + 2 ^ half k → cell k r i ≡ inWord (r * 2 ^ half k + (i - slot r * 2 ^ half k))
+  pub cell-in : slot r * 2 ^ half k ≤ i → i < slot r * 2 ^ half k + 2 ^ half k → cell k r i ≡ InWord (r * 2 ^ half k + (i - slot r * 2 ^ half k))
   unfolding cell
   cell-in g h = pick-false _ _ (le-ltb i (slot r * 2 ^ half k) g) ∙ pick-true _ _ (lt-ltb i (slot r * 2 ^ half k + 2 ^ half k) h)
 
-  pub cell-after : slot r * 2 ^ half k + 2 ^ half k ≤ i → cell k r i ≡ inProof (r * (7 * 2 ^ half k) + (i - 2 ^ half k))
+  pub cell-after : slot r * 2 ^ half k + 2 ^ half k ≤ i → cell k r i ≡ InProof (r * (7 * 2 ^ half k) + (i - 2 ^ half k))
   unfolding cell
   cell-after h = pick-false _ _ (le-ltb i (slot r * 2 ^ half k) (omega arith)) ∙ pick-false _ _ (le-ltb i (slot r * 2 ^ half k + 2 ^ half k) h)
 
   -- By the three cases
-  pub cell-cases : (T : Place → Type 0) → (i < slot r * 2 ^ half k → T (inProof (r * (7 * 2 ^ half k) + i)))
-      → (slot r * 2 ^ half k ≤ i → i < slot r * 2 ^ half k + 2 ^ half k → T (inWord (r * 2 ^ half k + (i - slot r * 2 ^ half k))))
-      → (slot r * 2 ^ half k + 2 ^ half k ≤ i → T (inProof (r * (7 * 2 ^ half k) + (i - 2 ^ half k)))) → T (cell k r i)
+  pub cell-cases : (T : Place → Type 0) → (i < slot r * 2 ^ half k → T (InProof (r * (7 * 2 ^ half k) + i)))
+      → (slot r * 2 ^ half k ≤ i → i < slot r * 2 ^ half k + 2 ^ half k → T (InWord (r * 2 ^ half k + (i - slot r * 2 ^ half k))))
+      → (slot r * 2 ^ half k + 2 ^ half k ≤ i → T (InProof (r * (7 * 2 ^ half k) + (i - 2 ^ half k)))) → T (cell k r i)
   cell-cases T f g h = by (decLt i (slot r * 2 ^ half k)) (decLt i (slot r * 2 ^ half k + 2 ^ half k))
     where
       by : Dec (i < slot r * 2 ^ half k) → Dec (i < slot r * 2 ^ half k + 2 ^ half k) → T (cell k r i)
@@ -51,8 +53,8 @@ module _ (k r i : ℕ) where
 
 -- A position of a word of n symbols and a proof of m
 abbrev pub Inside : ℕ → ℕ → Place → Type 0
-Inside n m (inWord i) = i < n
-Inside n m (inProof i) = i < m
+Inside n m (InWord i) = i < n
+Inside n m (InProof i) = i < m
 
 pub cell-inside : (k n r i : ℕ) → 7 * 2 ^ k ≤ n → r < 2 ^ colDim k → i < 2 ^ rowDim k → Inside (2 ^ k) n (cell k r i)
 cell-inside k n r i hn hr hi =
@@ -63,18 +65,18 @@ cell-inside k n r i hn hr hi =
 
 module _ {k : ℕ} (s : 7 ≤ k) (rows : Dim (rowDim k)) (cols : Dim (colDim k)) where
   pub row-inside : (r : ℕ) → r < 2 ^ colDim k → (p : Place) → Inside (2 ^ rowDim k) (size rows) p → Inside (2 ^ k) (size (node s rows cols)) (rowPlace k (size rows) r p)
-  row-inside r hr (inWord i) h = cell-inside k (size (node s rows cols)) r i (omega arith) hr h
-  row-inside r hr (inProof i) h = omega (arith, part-fits (size rows) hr)
+  row-inside r hr (InWord i) h = cell-inside k (size (node s rows cols)) r i (omega arith) hr h
+  row-inside r hr (InProof i) h = omega (arith, part-fits (size rows) hr)
 
   pub col-inside : (a : ℕ) → a < 2 ^ (half k + 2) → (p : Place) → Inside (2 ^ colDim k) (size cols) p → Inside (2 ^ k) (size (node s rows cols)) (colPlace k (size rows) (size cols) a p)
-  col-inside a ha (inWord i) h = cell-inside k (size (node s rows cols)) i a (omega arith) h (omega (arith, ha, pow-four (half k), pow-eight (half k)))
-  col-inside a ha (inProof i) h = omega (arith, part-fits (size cols) ha)
+  col-inside a ha (InWord i) h = cell-inside k (size (node s rows cols)) i a (omega arith) h (omega (arith, ha, pow-four (half k), pow-eight (half k)))
+  col-inside a ha (InProof i) h = omega (arith, part-fits (size cols) ha)
 
 image-inside : (P Q : Place → Type 0) (f : Place → Place) (ps : List Place) → ((p : Place) → P p → Q (f p)) → ((p : Place) → Among p ps → P p) → (p : Place) → Among p (map f ps) → Q p
 image-inside P Q f ps g h p m = let (o, n, e) = Memᴰ·of-map f ps m in subst Q e (g o (h o n))
 
 pub positions-inside : {k : ℕ} (d : Dim k) (coin : ℕ) (p : Place) → Among p (positions d coin) → Inside (2 ^ k) (size d) p
-positions-inside (leaf {k = k} s) coin = λ p m. let (i, h, e) = of-among-tab (2 ^ k) inWord m in subst (Inside (2 ^ k) 0) (sym e) h
+positions-inside (leaf {k = k} s) coin = λ p m. let (i, h, e) = of-among-tab (2 ^ k) InWord m in subst (Inside (2 ^ k) 0) (sym e) h
 positions-inside (node {k = k} s rows cols) coin =
     line-cases k coin
     (λ l i. (p : Place) → Among p (byLine l (λ r. map (rowPlace k (size rows) r) (positions rows i)) (λ a. map (colPlace k (size rows) (size cols) a) (positions cols i))) → Inside (2 ^ k) (size (node s rows cols)) p)
@@ -107,13 +109,13 @@ module _ (k : ℕ) (w π : List ℕ) (lw : length w ≡ 2 ^ k) (lπ : 7 * 2 ^ k 
       lb = length-block k w π lw lπ r hr
 
   pub read-row : (n r : ℕ) → r < 2 ^ colDim k → (p : Place) → Inside (2 ^ rowDim k) n p → readAt (row k w π r) (rowProof k n π r) p ≡ readAt w π (rowPlace k n r p)
-  read-row n r hr (inWord i) h = read-cell r i hr h
-  read-row n r hr (inProof i) h = getD-part n r i (drop (7 * 2 ^ k) π) 0 h ∙ getD-drop (7 * 2 ^ k) π (r * n + i) 0
+  read-row n r hr (InWord i) h = read-cell r i hr h
+  read-row n r hr (InProof i) h = getD-part n r i (drop (7 * 2 ^ k) π) 0 h ∙ getD-drop (7 * 2 ^ k) π (r * n + i) 0
 
   pub read-col : (n m a : ℕ) → a < 2 ^ (half k + 2) → (p : Place) → Inside (2 ^ colDim k) m p → readAt (column k w π a) (colProof k n m π a) p ≡ readAt w π (colPlace k n m a p)
-  read-col n m a ha (inWord i) h =
+  read-col n m a ha (InWord i) h =
       getD-tab (2 ^ colDim k) (λ r. getD (row k w π r) a 0) i 0 h ∙ read-cell i a h (omega (arith, pow-four (half k), pow-eight (half k)))
-  read-col n m a ha (inProof i) h =
+  read-col n m a ha (InProof i) h =
       getD-part m a i (drop (7 * 2 ^ k + 2 ^ colDim k * n) π) 0 h ∙ getD-drop (7 * 2 ^ k + 2 ^ colDim k * n) π (a * m + i) 0
 
 -- ---- the space at which a coin ends: its dimension and its basis
@@ -129,7 +131,7 @@ leafBasis K (node {k = k} s rows cols) b coin =
 
 -- As many symbols are read as that space has elements
 pub length-positions : {k : ℕ} (d : Dim k) (coin : ℕ) → length (positions d coin) ≡ 2 ^ leafDim d coin
-length-positions (leaf {k = k} s) coin = length-tab (2 ^ k) inWord
+length-positions (leaf {k = k} s) coin = length-tab (2 ^ k) InWord
 length-positions (node {k = k} s rows cols) coin =
     line-cases k coin
     (λ l i.
@@ -151,7 +153,7 @@ module _ (K : Ops) where
   -- The verdict tests the symbols at the coin's positions
   pub reads : {k : ℕ} (d : Dim k) (b w π : List ℕ) → length w ≡ 2 ^ k → length π ≡ size d → (coin : ℕ)
       → Accepts K d b w π coin ≡ Codeword K (leafDim d coin) (leafBasis K d b coin) (map (readAt w π) (positions d coin))
-  reads (leaf {k = k} s) b w π lw lπ coin = ap (Codeword K k b) (tab-of (2 ^ k) w 0 lw ∙ sym (map-tab (readAt w π) (2 ^ k) inWord))
+  reads (leaf {k = k} s) b w π lw lπ coin = ap (Codeword K k b) (tab-of (2 ^ k) w 0 lw ∙ sym (map-tab (readAt w π) (2 ^ k) InWord))
   reads (node {k = k} s rows cols) b w π lw lπ coin =
       line-cases k coin
       (λ l i.

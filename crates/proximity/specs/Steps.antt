@@ -10,7 +10,11 @@ use Rattle.proximity.specs.Tree.{dim-leaf, dim-node}
 use Rattle.proximity.specs.Spaces.{rowBasis, colBasis}
 use Rattle.proximity.specs.Bivariate.{bivariate}
 use Rattle.proximity.specs.Proof.{row, column, rowProof, colProof, rowPoly, colPoly, stored, proofOf}
-use Rattle.proximity.specs.Verifier.{Line, Row, Column, lineOf, bitsLeft, byLine, Accepts, Place, inWord, rowPlace, colPlace, positions}
+use Rattle.proximity.specs.declared.Line.{Line}
+use Rattle.proximity.specs.declared.Line.the-variants.{Row, Column}
+use Rattle.proximity.specs.declared.Place.{Place}
+use Rattle.proximity.specs.declared.Place.the-variants.{InWord}
+use Rattle.proximity.specs.Verifier.{lineOf, bitsLeft, byLine, Accepts, rowPlace, colPlace, positions}
 use Rattle.proximity.specs.Prover.{Written}
 
 module _ (K : Ops) (k : ℕ) (b w π : List ℕ) where
@@ -43,7 +47,7 @@ module _ (K : Ops) (k : ℕ) (b w π : List ℕ) where
   written-node s = ap (λ (d : Dim k). Written K d b w π) (dim-node k s)
 
 module _ (k : ℕ) where
-  pub positions-leaf : k ≤ 6 → (coin : ℕ) → positions (dim k) coin ≡ tab (2 ^ k) inWord
+  pub positions-leaf : k ≤ 6 → (coin : ℕ) → positions (dim k) coin ≡ tab (2 ^ k) InWord
   positions-leaf s coin = ap (λ (d : Dim k). positions d coin) (dim-leaf k s)
 
   abbrev LinePositions : Line → ℕ → List Place

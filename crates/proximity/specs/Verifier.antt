@@ -9,14 +9,13 @@ use Rattle.field.specs.Laws.{Ops}
 use Rattle.poly.specs.Codeword.{Codeword}
 use Rattle.proximity.specs.Dim.{half, colDim, Dim, leaf, node, size}
 use Rattle.proximity.specs.Spaces.{rowBasis, colBasis}
+use Rattle.proximity.specs.declared.Line.{Line}
+use Rattle.proximity.specs.declared.Line.the-variants.{Row, Column}
+use Rattle.proximity.specs.declared.Place.{Place}
+use Rattle.proximity.specs.declared.Place.the-variants.{InWord, InProof}
 use Rattle.proximity.specs.Proof.{slot, row, column, rowProof, colProof}
 
 -- ---- the line that a coin takes
-
--- A row or a column, by its number
-pub data Line : Type 0 where
-  Row : ℕ → Line
-  Column : ℕ → Line
 
 -- Bit 0 is used first: 0 takes a row, and the next c bits give r; 1 takes a column, and the next h+2 bits give a
 unfoldable pub lineOf : ℕ → ℕ → Line
@@ -43,30 +42,25 @@ Accepts K (node {k = k} s rows cols) b w π coin =
 
 -- ---- the positions of a coin
 
--- A position in the lent word or in the lent proof
-pub data Place : Type 0 where
-  inWord : ℕ → Place
-  inProof : ℕ → Place
-
 -- Where the layout keeps position i of row r: before, in or after the block that lies in the word
 unfoldable pub cell : ℕ → ℕ → ℕ → Place
 cell k r i =
-    pick (ltb i (slot r * 2 ^ half k)) (inProof (r * (7 * 2 ^ half k) + i))
-    (pick (ltb i (slot r * 2 ^ half k + 2 ^ half k)) (inWord (r * 2 ^ half k + (i - slot r * 2 ^ half k))) (inProof (r * (7 * 2 ^ half k) + (i - 2 ^ half k))))
+    pick (ltb i (slot r * 2 ^ half k)) (InProof (r * (7 * 2 ^ half k) + i))
+    (pick (ltb i (slot r * 2 ^ half k + 2 ^ half k)) (InWord (r * 2 ^ half k + (i - slot r * 2 ^ half k))) (InProof (r * (7 * 2 ^ half k) + (i - 2 ^ half k))))
 
 -- Where it keeps a position of the word or of the proof of row r, where a row's proof has n symbols
 abbrev pub rowPlace : ℕ → ℕ → ℕ → Place → Place
-rowPlace k n r (inWord i) = cell k r i
-rowPlace k n r (inProof i) = inProof (7 * 2 ^ k + (r * n + i))
+rowPlace k n r (InWord i) = cell k r i
+rowPlace k n r (InProof i) = InProof (7 * 2 ^ k + (r * n + i))
 
 -- The same for column a, where a column's proof has m symbols; position r of column a is position a of row r
 abbrev pub colPlace : ℕ → ℕ → ℕ → ℕ → Place → Place
-colPlace k n m a (inWord r) = cell k r a
-colPlace k n m a (inProof i) = inProof (7 * 2 ^ k + 2 ^ colDim k * n + (a * m + i))
+colPlace k n m a (InWord r) = cell k r a
+colPlace k n m a (InProof i) = InProof (7 * 2 ^ k + 2 ^ colDim k * n + (a * m + i))
 
 -- At k ≤ 6 all positions of the word; at k ≥ 7 those that the bits left over have in the row or column taken, each replaced by where it is kept
 abbrev pub positions : {k : ℕ} → Dim k → ℕ → List Place
-positions (leaf {k = k} s) coin = tab (2 ^ k) inWord
+positions (leaf {k = k} s) coin = tab (2 ^ k) InWord
 positions (node {k = k} s rows cols) coin =
     byLine (lineOf k coin)
     (λ r. map (rowPlace k (size rows) r) (positions rows (bitsLeft k coin)))
@@ -74,5 +68,5 @@ positions (node {k = k} s rows cols) coin =
 
 -- The symbol at a position
 abbrev pub readAt : List ℕ → List ℕ → Place → ℕ
-readAt w π (inWord i) = getD w i 0
-readAt w π (inProof i) = getD π i 0
+readAt w π (InWord i) = getD w i 0
+readAt w π (InProof i) = getD π i 0
