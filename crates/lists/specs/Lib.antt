@@ -2,6 +2,7 @@
 pub mod All
 pub mod Answers
 pub mod Filled
+pub mod Lanes
 pub mod Overwrite
 pub mod Pick
 pub mod Stretch
