@@ -1,0 +1,2 @@
+-- The transform on lanes and the codeword test.
+pub mod Slices
