@@ -1,0 +1,2 @@
+-- What the checker answers.
+pub mod Parts

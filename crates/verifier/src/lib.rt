@@ -1,0 +1,2 @@
+// The checker for one coin.
+pub mod blocks;
