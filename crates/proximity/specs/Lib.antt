@@ -23,4 +23,5 @@ pub mod NoRepeats
 pub mod Coverage
 pub mod Steps
 pub mod LineLaws
+pub mod PlaceLaws
 pub mod Cases
