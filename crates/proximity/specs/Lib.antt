@@ -24,4 +24,6 @@ pub mod Coverage
 pub mod Steps
 pub mod LineLaws
 pub mod PlaceLaws
+pub mod LineImages
+pub mod ImageLaws
 pub mod Cases
