@@ -23,5 +23,8 @@ pub mod NoRepeats
 pub mod Coverage
 pub mod Steps
 pub mod LineLaws
+pub mod PlaceLaws
+pub mod LineImages
+pub mod ImageLaws
 pub mod Cases
 pub mod Places

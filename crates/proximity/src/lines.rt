@@ -16,6 +16,14 @@ pub fn half(k: usize) -> usize
     k / 2
 }
 
+// How many symbols a block has.
+pub fn block_size(k: usize) -> usize
+    requires { ⌜ k ≤ maxDim ⌝ }
+    ensures { λ r. ⌜ r ≡ 2 ^ half k ⌝ }
+{
+    1usize << (k / 2)
+}
+
 // How many rows there are.
 pub fn rows(k: usize) -> usize
     requires { ⌜ k ≤ maxDim ⌝ }
@@ -103,5 +111,5 @@ pub fn blocks_at(k: usize, r: usize) -> usize
     requires { ⌜ (k ≤ maxDim) × (r < 2 ^ colDim k) ⌝ }
     ensures { λ s. ⌜ s ≡ r * (7 * 2 ^ half k) ⌝ }
 {
-    r * (7usize << (k / 2))
+    r * (7 * block_size(k))
 }
