@@ -1,8 +1,8 @@
 -- The blocks of a word in two parts. Assumes nothing.
-use mathlib.Core.Path.{_≡_, sym, ap, _∙_}
+use mathlib.Core.Path.{_≡_, sym, ap, _∙_, subst}
 use mathlib.Core.List.{List, _++_, append-assoc}
 use Prim.Native.Nat.{ℕ, _+_, _-_, _*_, _/_, _%_, _^_, _≤_, _<_}
-use native.Mathlib.Nat.{div-add-mod', div-lt-iff-lt-mul, one-mul, mod-eq-of-lt}
+use native.Mathlib.Nat.{div-add-mod', one-mul, mod-eq-of-lt, mod-lt, mul-le-mul-right, mul-assoc, mul-comm, mul-sub, lt-of-mul-lt-mul-right}
 use native.Mathlib.Omega.{arith}
 use lib.ListN.{length, take, drop, length-append, length-take, length-drop, take-append-drop}
 use lib.Pow.{pow-pos, pow-mono}
@@ -70,3 +70,15 @@ stretch-part n at count xs pos h =
 -- 1, shifted
 pub one-shifted : (e : ℕ) → e < 32 → 1 * 2 ^ e % 18446744073709551616 ≡ 2 ^ e
 one-shifted e h = let small : 2 ^ e ≤ 2 ^ 32 = pow-mono {j = 32} (omega arith) in ap (λ (n : ℕ). n % 18446744073709551616) (one-mul (2 ^ e)) ∙ mod-eq-of-lt (omega arith)
+
+-- a stretch of m that starts at a multiple of m lies in one block of n m
+pub aligned : (n m r : ℕ) → 0 < m → 0 < n → r * m % (n * m) + m ≤ n * m
+aligned n m r hm hn =
+    let q : ℕ = r * m / (n * m) in
+    let t : ℕ = r * m % (n * m) in
+    let whole : q * (n * m) + t ≡ r * m = div-add-mod' (r * m) (n * m) in
+    let less : t < n * m = mod-lt (r * m) (omega (arith, mul-le-mul-right {m = 1} {n = n} m hn)) in
+    let s : ℕ = r - q * n in
+    let same : s * m ≡ t = mul-comm s m ∙ mul-sub m r (q * n) ∙ omega (arith, mul-comm m r, mul-comm m (q * n), mul-assoc q n m) in
+    let below : s < n = lt-of-mul-lt-mul-right m (subst (λ (x : ℕ). x < n * m) (sym same) less) in
+    subst (λ (x : ℕ). x + m ≤ n * m) same (part-fits m below)
