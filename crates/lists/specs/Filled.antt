@@ -1,5 +1,5 @@
 -- A loop that writes one place after the other, by what each place holds. Assumes nothing.
-use mathlib.Core.Path.{_≡_, refl, sym, ap, _∙_}
+use mathlib.Core.Path.{_≡_, refl, sym, ap, _∙_, subst}
 use mathlib.Core.Logic.{_⊎_, inl, inr}
 use mathlib.Core.List.{List}
 use Prim.Native.Nat.{ℕ, _+_, _-_, _≤_, _<_}
@@ -7,6 +7,7 @@ use native.Mathlib.Decide.{decLt}
 use native.Mathlib.Omega.{arith}
 use lib.ListN.{length, getD, set, length-set}
 use lib.Seq.{ext-getD, getD-set-same, getD-set-other}
+use Rattle.lists.specs.All.{All, All-of, All-inside}
 use Rattle.lists.specs.Tables.{tab, length-tab, getD-tab}
 
 -- the list is `old` with f 0, f 1, .. at the n places from a on
@@ -48,3 +49,17 @@ filled-all {n} {f} {old} {new} e s =
     (λ i h. let start : 0 + i ≡ i = omega arith in
     let l : i < n = omega (arith, s .kept) in
     ap (λ (k : ℕ). getD new k 0) (sym start) ∙ s .inside i l ∙ sym (getD-tab n f i 0 l))
+
+-- what holds of the old entries and of those that are written
+pub filled-each : (P : ℕ → Type 0) {a n : ℕ} {f : ℕ → ℕ} {old new : List ℕ} → All P old → ((j : ℕ) → j < n → P (f j)) → Filled a n f old new → All P new
+filled-each P {a} {n} {f} {old} {new} ho hf s = All-of P new 0 (λ p h. at p (omega (arith, s .kept)) (decLt p a) (decLt p (a + n)))
+  where
+    kept-at : (p : ℕ) → p < length old → getD new p 0 ≡ getD old p 0 → P (getD new p 0)
+    kept-at p h e = subst P (sym e) (All-inside P old 0 ho p h)
+
+    at : (p : ℕ) → p < length old → Dec (p < a) → Dec (p < a + n) → P (getD new p 0)
+    at p h (yes l) d = kept-at p h (s .outside p (inl l))
+    at p h (no l) (no g) = kept-at p h (s .outside p (inr (omega arith)))
+    at p h (no l) (yes g) =
+        let place : a + (p - a) ≡ p = omega arith in
+        subst P (sym (s .inside (p - a) (omega arith)) ∙ ap (λ (i : ℕ). getD new i 0) place) (hf (p - a) (omega arith))

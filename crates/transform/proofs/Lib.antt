@@ -1,2 +1,5 @@
 -- Laws that belong to no one function.
+pub mod Halves
+pub mod Layers
+pub mod Scaling
 pub mod Written

@@ -6,8 +6,7 @@ use native.Mathlib.Decide.{decLt}
 use native.Mathlib.Nat.{mul-comm}
 use native.Mathlib.Omega.{arith}
 use lib.ListN.{length, getD, take, drop}
-use lib.Seq.{getD-take, getD-drop}
-use Rattle.lists.specs.Overwrite.{length-cut}
+use Rattle.lists.specs.Overwrite.{length-cut, getD-cut}
 use Rattle.lists.specs.Tables.{part, part-fits, getD-part, length-part}
 use Rattle.lists.specs.Lanes.{Strided, strided-other, strided-beyond, lane-is}
 use Rattle.transform.specs.Slices.{Transposed}
@@ -30,9 +29,6 @@ module _ (rows size : ℕ) (from old : List ℕ) (fits : rows * size ≤ length 
     pub length-list : length (cut size j from) ≡ size
     length-list = length-cut (j * size) size from (omega (arith, part-fits {i = j} {n = rows} size h))
 
-    getD-list : (o : ℕ) → o < size → getD (cut size j from) o 0 ≡ getD from (j * size + o) 0
-    getD-list o k = getD-take (j * size + size - j * size) (drop (j * size) from) o 0 (omega arith) ∙ getD-drop (j * size) from o 0
-
     pub written-next : (v w : List ℕ) → Written rows size j from old v → Strided rows j (length (cut size j from)) (λ (o : ℕ). getD (cut size j from) o 0) v w
         → Written rows size (j + 1) from old w
     written-next v w s t =
@@ -46,7 +42,7 @@ module _ (rows size : ℕ) (from old : List ℕ) (fits : rows * size ≤ length 
         at r o k l (yes q) = strided-other rows j t o r h (omega arith) (λ e. omega arith) ∙ s .inside r o q l
         at r o k l (no q) =
             let same : r ≡ j = omega arith in
-            ap (λ (i : ℕ). getD w (o * rows + i) 0) same ∙ t .inside o (omega (arith, length-list)) ∙ getD-list o l ∙ ap (λ (i : ℕ). getD from (i * size + o) 0) (sym same)
+            ap (λ (i : ℕ). getD w (o * rows + i) 0) same ∙ t .inside o (omega (arith, length-list)) ∙ getD-cut (j * size) size from o l ∙ ap (λ (i : ℕ). getD from (i * size + o) 0) (sym same)
 
   pub written-all : (j : ℕ) (v : List ℕ) → rows ≤ j → Written rows size j from old v → Transposed rows size from old v
   written-all j v h s =

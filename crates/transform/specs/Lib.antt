@@ -1,2 +1,4 @@
 -- The transform on lanes and the codeword test.
+pub mod Lanes
+pub mod Layers
 pub mod Slices
