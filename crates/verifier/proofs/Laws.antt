@@ -1,5 +1,5 @@
 -- The blocks of a word in two parts. Assumes nothing.
-use mathlib.Core.Path.{_≡_, sym, ap, _∙_, subst}
+use mathlib.Core.Path.{_≡_, refl, sym, ap, _∙_, subst}
 use mathlib.Core.List.{List, _++_, append-assoc}
 use Prim.Native.Nat.{ℕ, _+_, _-_, _*_, _/_, _%_, _^_, _≤_, _<_}
 use native.Mathlib.Nat.{div-add-mod', one-mul, mod-eq-of-lt, mod-lt, mul-le-mul-right, mul-assoc, mul-comm, mul-sub, lt-of-mul-lt-mul-right}
@@ -10,7 +10,7 @@ use lib.Seq.{take-at, drop-at, take-append-le, drop-append-le, drop-drop, length
 use Rattle.lists.specs.All.{drop-take}
 use Rattle.lists.specs.Overwrite.{drop-append-at}
 use Rattle.lists.specs.Tables.{part, insert, part-fits, length-insert}
-use Rattle.verifier.specs.Parts.{InParts, joined}
+use Rattle.verifier.specs.Parts.{InParts, joined, noSymbols}
 
 module _ (near far : List ℕ) (slot : ℕ) (p : InParts near far slot) where
   abbrev size : ℕ
@@ -82,3 +82,7 @@ aligned n m r hm hn =
     let same : s * m ≡ t = mul-comm s m ∙ mul-sub m r (q * n) ∙ omega (arith, mul-comm m r, mul-comm m (q * n), mul-assoc q n m) in
     let below : s < n = lt-of-mul-lt-mul-right m (subst (λ (x : ℕ). x < n * m) (sym same) less) in
     subst (λ (x : ℕ). x + m ≤ n * m) same (part-fits m below)
+
+pub length-no-symbols : length noSymbols ≡ 64
+unfolding noSymbols
+length-no-symbols = refl

@@ -1,2 +1,3 @@
 // The checker for one coin.
 pub mod blocks;
+pub mod gather;
