@@ -21,16 +21,17 @@ symbolsAt k w π coin = map (readAt w π) (positions (dim k) coin)
 abbrev pub readsOf : ℕ → ℕ → ℕ
 readsOf k coin = length (positions (dim k) coin)
 
--- a word or a proof of another length
-abbrev pub WrongLength : ℕ → List ℕ → List ℕ → Type 0
-WrongLength k w π = (length w ≡ 2 ^ k → ⊥) ⊎ (length π ≡ S k → ⊥)
+-- checks 6 and 8, of the lengths of word and proof and of the coin
+abbrev pub deliveryChecks : ℕ → ℕ → ℕ → ℕ → Checks
+deliveryChecks k word proof coin = (6, (word ≡ 2 ^ k → ⊥) ⊎ (proof ≡ S k → ⊥)) ∷ (8, 2 ^ R k ≤ coin) ∷ []
 
--- checks 6, 8 and 9; check 9 concerns the symbols at this coin's positions alone
-abbrev pub coinChecks : Ops → ℕ → List ℕ → List ℕ → ℕ → Checks
-coinChecks K k w π coin = (6, WrongLength k w π) ∷ (8, 2 ^ R k ≤ coin) ∷ (9, (All (K .Sym) (symbolsAt k w π coin) → ⊥)) ∷ []
+-- check 9, of the symbols at this coin's positions alone
+abbrev pub readChecks : Ops → ℕ → List ℕ → List ℕ → ℕ → Checks
+readChecks K k w π coin = (9, (All (K .Sym) (symbolsAt k w π coin) → ⊥)) ∷ []
 
 abbrev pub checkerChecks : ℕ → List ℕ → List ℕ → List ℕ → ℕ → Checks
-checkerChecks m bs w π coin = settingChecks m bs ++ coinChecks (symbols m) (length bs) w π coin
+checkerChecks m bs w π coin =
+    settingChecks m bs ++ deliveryChecks (length bs) (length w) (length π) coin ++ readChecks (symbols m) (length bs) w π coin
 
 -- the answer, past the checks cs
 abbrev pub Answered : Checks → Ops → ℕ → List ℕ → List ℕ → List ℕ → ℕ → Verdict → Type 0
@@ -43,8 +44,5 @@ abbrev pub Told : ℕ → List ℕ → List ℕ → List ℕ → ℕ → Verdict
 Told m bs w π coin = Answered (checkerChecks m bs w π coin) (symbols m) (length bs) bs w π coin
 
 -- the answer past checks 1 to 8
-abbrev pub readChecks : Ops → ℕ → List ℕ → List ℕ → ℕ → Checks
-readChecks K k w π coin = (9, (All (K .Sym) (symbolsAt k w π coin) → ⊥)) ∷ []
-
 abbrev pub OnCoin : Ops → ℕ → List ℕ → List ℕ → List ℕ → ℕ → Verdict → Type 0
 OnCoin K k bs w π coin = Answered (readChecks K k w π coin) K k bs w π coin
