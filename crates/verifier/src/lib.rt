@@ -1,6 +1,7 @@
 // The checker for one coin.
 pub mod blocks;
 pub mod gather;
+
 use proximity::tables;
 ghost use Prim.Native.Nat.{_≤_};
 ghost use Rattle.lists.specs.Answers.{Answers};

@@ -23,11 +23,11 @@ module _ (k word proof coin : ℕ) (few : k ≤ 12) where
   right-lengths e f (inl g) = g (e ∙ one-shifted k (omega arith))
   right-lengths e f (inr g) = g f
 
-  at-least : {n : ℕ} → (coin < 2 ^ n → ⊥) → 2 ^ n ≤ coin
-  at-least {n} g = omega (arith, g)
+  at-least : (n : ℕ) → (coin < 2 ^ n → ⊥) → 2 ^ n ≤ coin
+  at-least n g = omega (arith, g)
 
   high : (n : ℕ) → n ≡ R k → (coin / 2 ^ n ≡ 0 → ⊥) → 2 ^ R k ≤ coin
-  high n e f = subst (λ (r : ℕ). 2 ^ r ≤ coin) e (at-least (λ l. f (div-eq-of-lt l)))
+  high n e f = subst (λ (r : ℕ). 2 ^ r ≤ coin) e (at-least n (λ l. f (div-eq-of-lt l)))
 
   low : (n : ℕ) → n ≡ R k → coin / 2 ^ n ≡ 0 → 2 ^ R k ≤ coin → ⊥
   low n e z h =
