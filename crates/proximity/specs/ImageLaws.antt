@@ -1,14 +1,14 @@
 -- The table of a line's space is right where that of the space is. Assumes nothing.
-use mathlib.Core.Path.{_≡_, refl, sym, ap, ap₂, _∙_, subst}
-use mathlib.Core.List.{List, [], _∷_, _++_, map}
-use Prim.Native.Nat.{ℕ, zero, suc, _+_, _*_, _/_, _%_, _-_, _^_, _≤_, _<_}
+use mathlib.Core.Path.{_≡_, refl, sym, ap, _∙_, subst}
+use mathlib.Core.List.{List, [], _∷_, map}
+use Prim.Native.Nat.{ℕ, _+_, _*_, _/_, _%_, _-_, _≤_, _<_}
 use native.Mathlib.Decide.{decLt, ℕ-discrete}
 use native.Mathlib.Omega.{arith}
 use lib.Dec.{eqb}
 use borrow.Author.Tests.{lt-ltb, le-ltb, eq-eqb, ne-eqb}
-use lib.ListN.{length, getD, take, drop, length-append, length-drop, length-map, List·getD-append, List·getD-map}
+use lib.ListN.{length, getD, take, drop, length-append, length-drop, length-map, List·getD-append}
 use lib.Seq.{ext-getD, length-take-le, getD-take, getD-drop, getD-append-add}
-use Rattle.lists.specs.All.{All, All-at, All-of}
+use Rattle.lists.specs.All.{All, All-at}
 use Rattle.lists.specs.Pick.{pick, pick-true, pick-false}
 use Rattle.lists.specs.Members.{getD-map-in}
 use Rattle.lists.specs.Tables.{tab, length-tab, getD-tab, All-tab}
@@ -21,11 +21,11 @@ use Rattle.poly.specs.Tower.{images, length-images, image-table, image-take, im
 use Rattle.poly.specs.Codeword.{Basis}
 use Rattle.space.specs.Images.{Images}
 use Rattle.space.specs.Setting.{maxDim}
-use Rattle.proximity.specs.Dim.{half, rowDim, colDim}
+use Rattle.proximity.specs.Dim.{half, colDim}
 use Rattle.proximity.specs.Spaces.{β, rowLast, rowBasis, colBasis}
 use Rattle.proximity.specs.declared.Line.{Line}
 use Rattle.proximity.specs.declared.Line.the-variants.{Row, Column}
-use Rattle.proximity.specs.ByLine.{InRange, lineDim, lineBasis}
+use Rattle.proximity.specs.ByLine.{lineBasis}
 use Rattle.proximity.specs.LineImages.{imageColumn, elementImages, rowImages, columnImages, lineImages, LineTable}
 
 -- Sums are the same under every modulus

@@ -6,7 +6,7 @@ use lib.Dec.{ltb, eqb}
 use lib.ListN.{getD}
 use Rattle.lists.specs.Pick.{pick}
 use Rattle.lists.specs.Tables.{tab}
-use Rattle.field.specs.Binary.{Irreducible}
+use Rattle.field.specs.Binary.{_⊕_, Irreducible}
 use Rattle.field.specs.Symbols.{symbols}
 use Rattle.poly.specs.Span.{elem}
 use Rattle.poly.specs.Codeword.{Basis}
@@ -15,6 +15,10 @@ use Rattle.proximity.specs.Dim.{half, colDim}
 use Rattle.proximity.specs.declared.Line.{Line}
 use Rattle.proximity.specs.Verifier.{byLine}
 use Rattle.proximity.specs.ByLine.{lineBasis}
+
+-- x with row i of the table added
+unfoldable pub addedRow : List ℕ → ℕ → List ℕ → List ℕ
+addedRow t i x = tab 16 (λ j. getD x j 0 ⊕ getD t (16 * i + j) 0)
 
 -- The images of number j of the c basis elements after the first h
 abbrev pub imageColumn : ℕ → ℕ → List ℕ → ℕ → List ℕ

@@ -1,6 +1,7 @@
 // The layout of a proof of proximity and the line that a coin takes, by dimension.
 pub mod lines;
 pub mod places;
+pub mod spaces;
 pub mod tables;
 
 // A row or a column.
