@@ -1,12 +1,16 @@
 // The checker for one coin.
 pub mod blocks;
 pub mod gather;
-
+pub mod parts;
+use field::modulus;
 use proximity::tables;
-ghost use Prim.Native.Nat.{_≤_};
+use space::Space;
+ghost use mathlib.Core.Path.{_≡_};
+ghost use Prim.Native.Nat.{_≤_, _^_};
+ghost use lib.ListN.{length};
 ghost use Rattle.lists.specs.Answers.{Answers};
 ghost use Rattle.space.specs.Setting.{maxDim};
-ghost use Rattle.verifier.specs.Checker.{deliveryChecks};
+ghost use Rattle.verifier.specs.Checker.{deliveryChecks, Told};
 
 // The verdict with the number of symbols read, or the number of a refusal.
 pub enum Verdict {
@@ -31,3 +35,4 @@ fn delivery_refusal(k: usize, word: usize, proof: usize, coin: u64) -> u8
     }
     0
 }
+
