@@ -1,5 +1,5 @@
 -- What holds of every entry of a list. Assumes nothing.
-use mathlib.Core.Path.{_≡_, sym, ap, _∙_, subst, subst⁻¹}
+use mathlib.Core.Path.{_≡_, refl, sym, ap, _∙_, subst, subst⁻¹}
 use mathlib.Core.List.{List, [], _∷_, _++_, map, zipWith}
 use Prim.Native.Nat.{ℕ, zero, suc, _+_, _-_, _≤_, _<_}
 use native.Mathlib.Nat.{zero-add, suc-add}
@@ -83,3 +83,9 @@ pub All-drop-take : (P : ℕ → Type 0) (a b : ℕ) (xs : List ℕ) → a ≤ b
 All-drop-take P a b xs h z =
     subst (λ (k : ℕ). All P (drop a (take k xs))) {x = a + (b - a)} {y = b} (omega arith)
     (subst⁻¹ (All P) (drop-take a (b - a) xs) (All-take P (b - a) (drop a xs) z))
+
+-- every entry of zeros, and past the end the default
+pub zeros-at : (n p : ℕ) → getD (replicate {A = ℕ} n 0) p 0 ≡ 0
+zeros-at zero p = refl
+zeros-at (suc n) zero = refl
+zeros-at (suc n) (suc p) = zeros-at n p

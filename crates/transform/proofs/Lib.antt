@@ -2,4 +2,5 @@
 pub mod Halves
 pub mod Layers
 pub mod Scaling
+pub mod SpanLists
 pub mod Written

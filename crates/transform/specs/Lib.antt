@@ -2,3 +2,4 @@
 pub mod Lanes
 pub mod Layers
 pub mod Slices
+pub mod Spans

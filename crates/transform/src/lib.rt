@@ -5,3 +5,4 @@
 // lane: lane r has symbol r of each list.
 pub mod lanes;
 pub mod slices;
+pub mod spans;
