@@ -1,4 +1,7 @@
 -- Laws that belong to no one function.
+pub mod Alike
+pub mod BlockLaws
+pub mod CodewordTest
 pub mod Halves
 pub mod Layers
 pub mod Scaling

@@ -27,11 +27,11 @@ next-pow i = ap (λ (k : ℕ). 2 ^ k) (add-one i) ∙ pow-suc 2 i ∙ omega arit
 -- ---- one list
 
 module _ (images : List ℕ) (from c j : ℕ) where
-  length-images : length (imageList images from c j) ≡ c
+  pub length-images : length (imageList images from c j) ≡ c
   unfolding imageList
   length-images = length-tab c (λ i. imageAt images (from + i) j)
 
-  images-at : (i : ℕ) → i < c → getD (imageList images from c j) i 0 ≡ imageAt images (from + i) j
+  pub images-at : (i : ℕ) → i < c → getD (imageList images from c j) i 0 ≡ imageAt images (from + i) j
   unfolding imageList
   images-at i h = getD-tab c (λ i. imageAt images (from + i) j) i 0 h
 

@@ -1,4 +1,5 @@
 -- The transform on lanes and the codeword test.
+pub mod Blocks
 pub mod Lanes
 pub mod Layers
 pub mod Slices
