@@ -1,5 +1,5 @@
 -- What holds of every entry of a list. Assumes nothing.
-use mathlib.Core.Path.{_≡_, sym, ap, _∙_, subst, subst⁻¹}
+use mathlib.Core.Path.{_≡_, refl, sym, ap, _∙_, subst, subst⁻¹}
 use mathlib.Core.List.{List, [], _∷_, _++_, map, zipWith}
 use Prim.Native.Nat.{ℕ, zero, suc, _+_, _-_, _≤_, _<_}
 use native.Mathlib.Nat.{zero-add, suc-add}
@@ -93,3 +93,9 @@ below-stable n (x ∷ xs) f = (by (decLt x n), below-stable n xs (λ g. f (λ h.
     by : Dec (x < n) → x < n
     by (yes h) = h
     by (no k) = absurd (f (λ h. k (h .0)))
+
+-- every entry of zeros, and past the end the default
+pub zeros-at : (n p : ℕ) → getD (replicate {A = ℕ} n 0) p 0 ≡ 0
+zeros-at zero p = refl
+zeros-at (suc n) zero = refl
+zeros-at (suc n) (suc p) = zeros-at n p

@@ -1,13 +1,15 @@
 -- A loop that writes one place after the other, by what each place holds. Assumes nothing.
 use mathlib.Core.Path.{_≡_, refl, sym, ap, _∙_, subst}
 use mathlib.Core.Logic.{_⊎_, inl, inr}
-use mathlib.Core.List.{List}
+use mathlib.Core.List.{List, _++_}
 use Prim.Native.Nat.{ℕ, _+_, _-_, _≤_, _<_}
 use native.Mathlib.Decide.{decLt}
 use native.Mathlib.Omega.{arith}
-use lib.ListN.{length, getD, set, take, length-set}
-use lib.Seq.{ext-getD, getD-set-same, getD-set-other, getD-take, length-take-le}
+use lib.ListN.{length, getD, set, take, drop, length-set, List·getD-append}
+use lib.Seq.{ext-getD, getD-set-same, getD-set-other, getD-take, getD-drop, length-take-le}
+use borrow.Rule.Slice.PartMut.{putMid}
 use Rattle.lists.specs.All.{All, All-of, All-inside}
+use Rattle.lists.specs.Overwrite.{getD-append-at, length-put}
 use Rattle.lists.specs.Tables.{tab, length-tab, getD-tab}
 
 -- the list is `old` with f 0, f 1, .. at the n places from a on
@@ -77,3 +79,23 @@ filled-take {n} {f} {old} {new} h s =
     (λ i k. let l : i < n = omega (arith, long) in
     let start : 0 + i ≡ i = omega arith in
     getD-take n new i 0 l ∙ ap (λ (j : ℕ). getD new j 0) (sym start) ∙ s .inside i l ∙ sym (getD-tab n f i 0 l))
+
+-- a part that was lent and written
+pub put-filled : (a k : ℕ) (xs ys : List ℕ) → a + k ≤ length xs → length ys ≡ k → Filled a k (λ i. getD ys i 0) xs (putMid a k xs ys)
+put-filled a k xs ys h e =
+    record { kept = length-put a k xs ys h e; inside = at; outside = λ p d. apart p d }
+  where
+    front : length (take a xs) ≡ a
+    front = length-take-le a xs (omega arith)
+
+    at : (i : ℕ) → i < k → getD (putMid a k xs ys) (a + i) 0 ≡ getD ys i 0
+    at i l =
+        getD-append-at (take a xs) (ys ++ drop k (drop a xs)) i (a + i) (omega (arith, front)) ∙ List·getD-append ys (drop k (drop a xs)) 0 i (omega arith)
+
+    apart : (p : ℕ) → (p < a) ⊎ (a + k ≤ p) → getD (putMid a k xs ys) p 0 ≡ getD xs p 0
+    apart p (inl l) = List·getD-append (take a xs) (ys ++ drop k (drop a xs)) 0 p (omega (arith, front)) ∙ getD-take a xs p 0 l
+    apart p (inr l) =
+        let back : a + (k + (p - (a + k))) ≡ p = omega arith in
+        getD-append-at (take a xs) (ys ++ drop k (drop a xs)) (p - a) p (omega (arith, front))
+        ∙ getD-append-at ys (drop k (drop a xs)) (p - (a + k)) (p - a) (omega arith)
+        ∙ getD-drop k (drop a xs) (p - (a + k)) 0 ∙ getD-drop a xs (k + (p - (a + k))) 0 ∙ ap (λ (i : ℕ). getD xs i 0) back

@@ -7,8 +7,9 @@ use native.Mathlib.Nat.{mul-add-mod-self-right, mod-eq-of-lt, mod-lt, div-add-mo
 use native.Mathlib.Omega.{arith}
 use lib.ListN.{length, getD, set, take, drop, length-set, length-append, take-append-drop, List·getD-append}
 use lib.Seq.{ext-getD, getD-set-same, getD-set-other, getD-take, length-take-le}
+use Rattle.lists.specs.All.{All, All-of, All-inside, All-at}
 use Rattle.lists.specs.Overwrite.{getD-append-at}
-use Rattle.lists.specs.Tables.{tab, length-tab, getD-tab, tab-ext, part-fits}
+use Rattle.lists.specs.Tables.{All-tab, tab, length-tab, getD-tab, tab-ext, part-fits}
 
 -- number r of each of n lists of `count` numbers
 unfoldable pub lane : ℕ → ℕ → ℕ → List ℕ → List ℕ
@@ -126,3 +127,18 @@ lanes-same count n xs ys ex ey e = ext-getD 0 xs ys (ex ∙ sym ey) (λ p h. at 
         subst (λ (i : ℕ). getD xs i 0 ≡ getD ys i 0) (div-add-mod' p count)
         (e (p / count) (p % count) (div-lt-iff-lt-mul pos .1 h) (mod-lt p pos))
     at p h (no z) = absurd (omega (arith, ap (λ (t : ℕ). n * t) {x = count} {y = 0} (omega arith), mul-zero n))
+
+-- what holds in each lane holds of the list
+pub lanes-each : (P : ℕ → Type 0) (count n : ℕ) (xs : List ℕ) → length xs ≡ n * count → ((r : ℕ) → r < count → All P (lane count r n xs)) → All P xs
+lanes-each P count n xs e h = All-of P xs 0 (λ p l. at p (omega arith) (decLt 0 count))
+  where
+    at : (p : ℕ) → p < n * count → Dec (0 < count) → P (getD xs p 0)
+    at p l (yes pos) =
+        let o : p / count < n = div-lt-iff-lt-mul pos .1 l in
+        subst P (getD-lane count (p % count) n xs (p / count) o ∙ ap (λ (i : ℕ). getD xs i 0) (div-add-mod' p count))
+        (All-inside P (lane count (p % count) n xs) 0 (h (p % count) (mod-lt p pos)) (p / count) (omega (arith, length-lane count (p % count) n xs)))
+    at p l (no z) = absurd (omega (arith, ap (λ (t : ℕ). n * t) {x = count} {y = 0} (omega arith), mul-zero n))
+
+pub lane-each : (P : ℕ → Type 0) (count r n : ℕ) (xs : List ℕ) → P 0 → All P xs → All P (lane count r n xs)
+unfolding lane
+lane-each P count r n xs z h = All-tab P n (λ o. getD xs (o * count + r) 0) (λ o l. All-at P xs 0 h z (o * count + r))

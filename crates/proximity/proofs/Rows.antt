@@ -13,7 +13,8 @@ use lib.Seq.{ext-getD, drop-cons}
 use Rattle.lists.specs.Filled.{Filled}
 use Rattle.lists.specs.Pick.{pick, pick-true, pick-false}
 use Rattle.lists.specs.Tables.{tab, length-tab, getD-tab}
-use Rattle.lists.specs.Upto.{Upto, zeros-at, upto-all}
+use Rattle.lists.specs.All.{zeros-at}
+use Rattle.lists.specs.Upto.{Upto, upto-all}
 use Rattle.field.specs.Binary.{_⊕_}
 use Rattle.field.specs.Symbols.{symbols}
 use Rattle.field.specs.Xor.{xor-assoc, xor-comm, xor-zero-left}

@@ -193,7 +193,7 @@ module _ (q c j count : ℕ) (ts : List ℕ) (es : length ts ≡ count) (factor 
 
 -- ---- as the code cuts the list of number j
 
-pub power : (j : ℕ) → j < 12 → (1 * 2 ^ j) % 18446744073709551616 ≡ 2 ^ j
+pub power : (j : ℕ) → j ≤ 12 → (1 * 2 ^ j) % 18446744073709551616 ≡ 2 ^ j
 power j h = shl-exact {a = 1} 1 j 64 (lit< tt) (omega arith) ∙ one-mul (2 ^ j)
 
 -- the list of number j

@@ -1,6 +1,7 @@
 -- `transform::lanes::inverse_layer` meets its contract: add_low, then add_scaled. Assumes nothing.
 use mathlib.Core.Path.{_∙_}
 use Prim.Native.Nat.{_/_, _^_}
+use native.Mathlib.Omega.{arith}
 use lib.ListN.{length}
 use borrow.Author.Needs.{needs}
 use Rattle.field.specs.Binary.{degree}
@@ -41,7 +42,7 @@ add-scaled-requires c κs =
       (
         list-below (2 ^ degree (a .f .modulus)) (a .j) (a .count) (a .lanes .now) (pre .1 .0),
         low-below (a .f .modulus) (length (a .values .now) / 2) (a .values .now) _ (pre .1 .1) (c .before .before .before .before .add-low .ensures),
-        c .before .before .before .before .add-low .ensures .kept ∙ scaled-length (a .f .modulus) (a .c) (a .j) (a .count) (a .lanes .now) (a .values .now) (pre .0 .3) (pre .1 .2) _ (power (a .j) (pre .0 .2)),
+        c .before .before .before .before .add-low .ensures .kept ∙ scaled-length (a .f .modulus) (a .c) (a .j) (a .count) (a .lanes .now) (a .values .now) (pre .0 .3) (pre .1 .2) _ (power (a .j) (omega (arith, pre .0 .2))),
       ),
     )
 
@@ -53,7 +54,7 @@ returns c =
     let start = c .before .before .before .before .before .before .before .before .before .before .before in
     let a = start .args in
     let pre = start .pre in
-    back-done (a .f .modulus) (a .c) (a .j) (a .count) (a .lanes .now) (a .values .now) (pre .0 .3) (pre .1 .2) _ _ _ (power (a .j) (pre .0 .2))
+    back-done (a .f .modulus) (a .c) (a .j) (a .count) (a .lanes .now) (a .values .now) (pre .0 .3) (pre .1 .2) _ _ _ (power (a .j) (omega (arith, pre .0 .2)))
     (c .before .before .before .before .before .before .before .add-low .ensures) (c .before .before .add-scaled .ensures)
 
 pub inverse-layer-spec : {M : Type 1} → statement M

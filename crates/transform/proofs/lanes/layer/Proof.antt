@@ -1,5 +1,6 @@
 -- `transform::lanes::layer` meets its contract: add_scaled, then add_low. Assumes nothing.
 use Prim.Native.Nat.{_^_}
+use native.Mathlib.Omega.{arith}
 use borrow.Author.Needs.{needs}
 use Rattle.field.specs.Binary.{degree}
 use Rattle.transform.proofs.Layers.{power, list-below, scaled-length, layer-done}
@@ -36,7 +37,7 @@ add-scaled-requires c κs =
       (
         list-below (2 ^ degree (a .f .modulus)) (a .j) (a .count) (a .lanes .now) (pre .1 .0),
         pre .1 .1,
-        scaled-length (a .f .modulus) (a .c) (a .j) (a .count) (a .lanes .now) (a .values .now) (pre .0 .3) (pre .1 .2) _ (power (a .j) (pre .0 .2)),
+        scaled-length (a .f .modulus) (a .c) (a .j) (a .count) (a .lanes .now) (a .values .now) (pre .0 .3) (pre .1 .2) _ (power (a .j) (omega (arith, pre .0 .2))),
       ),
     )
 
@@ -51,7 +52,7 @@ returns c =
     let start = c .before .before .before .before .before .before .before .before .before .before .before in
     let a = start .args in
     let pre = start .pre in
-    layer-done (a .f .modulus) (a .c) (a .j) (a .count) (a .lanes .now) (a .values .now) (pre .0 .3) (pre .1 .2) _ _ (c .before .before .add-low .last .0) (power (a .j) (pre .0 .2))
+    layer-done (a .f .modulus) (a .c) (a .j) (a .count) (a .lanes .now) (a .values .now) (pre .0 .3) (pre .1 .2) _ _ (c .before .before .add-low .last .0) (power (a .j) (omega (arith, pre .0 .2)))
     (c .before .before .before .before .before .before .add-scaled .ensures) (c .before .before .add-low .ensures)
 
 pub layer-spec : {M : Type 1} → statement M
