@@ -2,6 +2,7 @@
 pub mod blocks;
 pub mod gather;
 pub mod parts;
+
 use field::modulus;
 use proximity::tables;
 use space::Space;

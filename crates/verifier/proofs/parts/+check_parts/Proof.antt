@@ -227,11 +227,15 @@ check-parts-requires : (t : ℕ) → check-parts-lts.Need-check-parts-requires (
 check-parts-requires t c κs =
     let p = lines t c in
     let e = row-taken t c in
-    let d = dim-is t p _ e in
-    (falls-below t p _ e, (inside t p _ e,
-    subst (λ (s : ℕ). Lent (p .before .before .line-dimension .result) (c .before .before .row-near .result .now) (c .before .row-far .result .now) s (p .line-proof .result .now)) (sym (c .slot .ensures))
-    (subst (λ (n : ℕ). Lent n (c .before .before .row-near .result .now) (c .before .row-far .result .now) (slot (row-number t c)) (p .line-proof .result .now)) (sym d)
-    (row-parts t c (p .line-proof .result .now) (proof-long t p _ e ∙ ap S d)))))
+    let d = dim-is t p _ e in (
+      falls-below t p _ e,
+      (
+        inside t p _ e,
+        subst (λ (s : ℕ). Lent (p .before .before .line-dimension .result) (c .before .before .row-near .result .now) (c .before .row-far .result .now) s (p .line-proof .result .now)) (sym (c .slot .ensures))
+            (subst (λ (n : ℕ). Lent n (c .before .before .row-near .result .now) (c .before .row-far .result .now) (slot (row-number t c)) (p .line-proof .result .now)) (sym d)
+            (row-parts t c (p .line-proof .result .now) (proof-long t p _ e ∙ ap S d))),
+      ),
+    )
 
 enum-known-line-2 : (t : ℕ) → check-parts-lts.Need-enum-known-line-2 (claims t) (at t) check-parts.Post
 enum-known-line-2 t c = search needs
@@ -291,10 +295,14 @@ check-parts-requires-2 : (t : ℕ) → check-parts-lts.Need-check-parts-requires
 check-parts-requires-2 t c κs =
     let p = lines2 t c in
     let e = column-taken t c in
-    let d = dim-is t p _ e in
-    (falls-below t p _ e, (inside t p _ e,
-    plain-lent (p .before .before .line-dimension .result) (inside t p _ e .low) (whole t c) (whole-long t c ∙ ap (λ (n : ℕ). 2 ^ n) (sym d)) (c .before .first-block .result .now) (c .other-blocks .result .now)
-    (c .before .first-block .ensures) (c .other-blocks .ensures) (p .line-proof .result .now) (proof-long t p _ e)))
+    let d = dim-is t p _ e in (
+      falls-below t p _ e,
+      (
+        inside t p _ e,
+        plain-lent (p .before .before .line-dimension .result) (inside t p _ e .low) (whole t c) (whole-long t c ∙ ap (λ (n : ℕ). 2 ^ n) (sym d)) (c .before .first-block .result .now) (c .other-blocks .result .now)
+            (c .before .first-block .ensures) (c .other-blocks .ensures) (p .line-proof .result .now) (proof-long t p _ e),
+      ),
+    )
 
 returns-2 : (t : ℕ) → check-parts-lts.Need-returns-2 (claims t) (at t) check-parts.Post
 returns-2 t c =

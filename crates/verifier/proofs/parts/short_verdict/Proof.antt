@@ -52,16 +52,18 @@ module _ (c : tie.Then1) where
 short-codeword-requires : tie.Need-short-codeword-requires
 short-codeword-requires c κs =
     let s = start c .pre .0 in
-    let r = start c .args .t4 in
-    (record {
-      sized = s .sized;
-      irreducible = s .irreducible;
-      low = s .low;
-      high = omega (arith, start c .pre .1);
-      long = length-take-le (2 ^ k c) r (omega (arith, few c, start c .pre .2));
-      image-symbols = s .table .elements;
-      symbols = All-take (λ (x : ℕ). x < 2 ^ degree (q c)) (2 ^ k c) r (small c);
-    }, start c .pre .1)
+    let r = start c .args .t4 in (
+      record {
+        sized = s .sized;
+        irreducible = s .irreducible;
+        low = s .low;
+        high = omega (arith, start c .pre .1);
+        long = length-take-le (2 ^ k c) r (omega (arith, few c, start c .pre .2));
+        image-symbols = s .table .elements;
+        symbols = All-take (λ (x : ℕ). x < 2 ^ degree (q c)) (2 ^ k c) r (small c);
+      },
+      start c .pre .1,
+    )
 
 shl-t11 : tie.Need-shl-t11
 shl-t11 c = search needs
@@ -74,8 +76,10 @@ module _ (c : tie.After-short-codeword) (b w : List ℕ) (B : Basis (symbols (q 
 
   passes : Passes (((9, (All (λ (x : ℕ). x < 2 ^ degree (q here)) w → ⊥)) ∷ []))
   passes =
-      inr ((λ no-symbol. no-symbol (word-below (2 ^ (k here - 3)) (2 ^ degree (q here)) (pow-pos (k here - 3)) (pow-pos (degree (q here))) w (start here .args .t4) (lw ∙ eighths (k here) (low here)) t (small here))),
-      refl)
+      inr (
+        (λ no-symbol. no-symbol (word-below (2 ^ (k here - 3)) (2 ^ degree (q here)) (pow-pos (k here - 3)) (pow-pos (degree (q here))) w (start here .args .t4) (lw ∙ eighths (k here) (low here)) t (small here))),
+        refl,
+      )
 
   count : 1 * 2 ^ k here % 18446744073709551616 ≡ 2 ^ k here
   count = one-shifted (k here) (omega (arith, start here .pre .1))
@@ -98,9 +102,14 @@ returns-3 : tie.Need-returns-3
 returns-3 c = λ b w B I lw t.
     let s = c .before .before .before in
     let q = s .args .f .modulus in
-    let k = s .args .k in
-    (omega arith, inl ((λ h. decides-false _ (c .before .all-symbols .ensures) (c .if1 .left)
-    (read-below (2 ^ (k - 3)) (2 ^ degree q) (pow-pos (k - 3)) (pow-pos (degree q)) w (s .args .t4) (lw ∙ eighths k (s .pre .0 .low)) t h)), refl))
+    let k = s .args .k in (
+      omega arith,
+      inl (
+        (λ h. decides-false _ (c .before .all-symbols .ensures) (c .if1 .left)
+            (read-below (2 ^ (k - 3)) (2 ^ degree q) (pow-pos (k - 3)) (pow-pos (degree q)) w (s .args .t4) (lw ∙ eighths k (s .pre .0 .low)) t h)),
+        refl,
+      ),
+    )
 
 pub short-verdict-spec : {M : Type 1} → statement M
 short-verdict-spec =
