@@ -1,5 +1,5 @@
 -- The checker's answer from its stages: a refusal, or the answer on the coin. Assumes nothing.
-use mathlib.Core.Path.{_≡_}
+use mathlib.Core.Path.{_≡_, refl}
 use mathlib.Core.Logic.{_⊎_, inl, inr}
 use mathlib.Core.List.{List, _++_}
 use Prim.Native.Nat.{ℕ, _^_, _≤_, _<_}
@@ -35,6 +35,13 @@ right-of k w p coin (inr (a, inr b)) = record { word = same w (2 ^ k) (λ f. a (
         by : Dec (x ≡ y) → x ≡ y
         by (yes e) = e
         by (no n) = absurd (f n)
+
+pub delivery-passes : (k w p coin : ℕ) → w ≡ 2 ^ k → p ≡ S k → coin < 2 ^ R k → Passes (deliveryChecks k w p coin)
+delivery-passes k w p coin ew ep h = inr (lengths, inr ((λ l. omega arith), refl))
+  where
+    lengths : (w ≡ 2 ^ k → ⊥) ⊎ (p ≡ S k → ⊥) → ⊥
+    lengths (inl f) = f ew
+    lengths (inr f) = f ep
 
 module _ (m : ℕ) (bs w π : List ℕ) (coin : ℕ) where
   abbrev delivery : Checks
