@@ -8,3 +8,4 @@ pub mod Overwrite
 pub mod Pick
 pub mod Stretch
 pub mod Tables
+pub mod Upto

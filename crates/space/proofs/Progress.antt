@@ -1,69 +1,25 @@
 -- The tables of the first i basis elements, as the loop of `tabulate` makes them. Assumes nothing.
-use mathlib.Core.Path.{_≡_, refl, sym, ap, ap₂, _∙_, subst}
+use mathlib.Core.Path.{_≡_, sym, ap, ap₂, _∙_, subst}
 use mathlib.Core.Logic.{_≢_, _⊎_, inl, inr}
 use mathlib.Core.Bool.{true}
 use mathlib.Core.List.{List}
 use Prim.Native.Nat.{ℕ, zero, suc, _+_, _*_, _/_, _%_, _^_, _≤_, _<_}
 use native.Mathlib.Decide.{decLt, ℕ-discrete}
 use native.Mathlib.Omega.{arith}
-use lib.ListN.{length, getD, take, set, replicate, length-set, length-replicate, List·getD-eq-default}
+use lib.ListN.{length, getD, take, set, replicate, length-set, List·getD-eq-default}
 use lib.Pow.{pow-pos, pow-lt}
-use lib.Seq.{ext-getD, getD-set-same, getD-set-other}
-use Rattle.lists.specs.All.{Below, All-of}
+use lib.Seq.{getD-set-same, getD-set-other}
+use Rattle.lists.specs.All.{Below}
 use Rattle.lists.specs.Filled.{Filled}
-use Rattle.lists.specs.Tables.{tab, length-tab, getD-tab}
+use Rattle.lists.specs.Upto.{Upto, upto-none, upto-next, upto-all, upto-each}
 use Rattle.field.specs.Binary.{_⊕_, degree, product, inverse, Irreducible}
 use Rattle.field.specs.Laws.{Ops, IsField, 0-⊕}
 use Rattle.field.specs.Symbols.{symbols, symbols-field, inverse-zero}
 use Rattle.poly.specs.Span.{elem, elem-zero, vanish-nil, vanish-zero}
-use Rattle.poly.specs.Novel.{W, step, image, W-suc, W-sym, step-sym, elem-high, image-elem, image-zero, image-next, independent-iff}
+use Rattle.poly.specs.Novel.{W, step, image, W-suc, step-sym, elem-high, image-elem, image-zero, image-next, independent-iff}
 use Rattle.space.specs.Values.{valueAt, imageAt}
 use Rattle.space.specs.Setting.{imagesOf, stepsOf, inversesOf, noTables, tablesOf, Tabled}
 use Rattle.space.specs.declared.Tables.{Tables}
-
--- a list of n entries: f below i, and 0 from i on
-pub record Upto (n i : ℕ) (f : ℕ → ℕ) (xs : List ℕ) : Type 0 where
-  pub count : length xs ≡ n
-  pub done : (j : ℕ) → j < i → j < n → getD xs j 0 ≡ f j
-  pub left : (j : ℕ) → i ≤ j → getD xs j 0 ≡ 0
-
-zeros-at : (n j : ℕ) → getD (replicate {A = ℕ} n 0) j 0 ≡ 0
-zeros-at zero j = refl
-zeros-at (suc n) zero = refl
-zeros-at (suc n) (suc j) = zeros-at n j
-
-pub upto-none : (n : ℕ) (f : ℕ → ℕ) → Upto n 0 f (replicate n 0)
-upto-none n f = record { count = length-replicate {A = ℕ} n 0; done = λ j h k. absurd (omega arith); left = λ j h. zeros-at n j }
-
-pub upto-next : {n i : ℕ} {f : ℕ → ℕ} {xs : List ℕ} (x : ℕ) → i < n → x ≡ f i → Upto n i f xs → Upto n (i + 1) f (set xs i x)
-upto-next {n} {i} {f} {xs} x h e u =
-    record {
-      count = length-set xs i x ∙ u .count;
-      done = λ j k l. at j k l (ℕ-discrete j i);
-      left = λ j k. getD-set-other xs i j x 0 (λ q. omega arith) ∙ u .left j (omega arith);
-    }
-  where
-    at : (j : ℕ) → j < i + 1 → j < n → Dec (j ≡ i) → getD (set xs i x) j 0 ≡ f j
-    at j k l (yes q) = ap (λ (t : ℕ). getD (set xs i x) t 0) q ∙ getD-set-same xs i x 0 (omega (arith, u .count)) ∙ e ∙ ap f (sym q)
-    at j k l (no q) = getD-set-other xs i j x 0 q ∙ u .done j (omega arith) l
-
--- from i on f is 0
-pub upto-all : {n i : ℕ} {f : ℕ → ℕ} {xs : List ℕ} → ((j : ℕ) → i ≤ j → j < n → f j ≡ 0) → Upto n i f xs → xs ≡ tab n f
-upto-all {n} {i} {f} {xs} z u =
-    ext-getD 0 xs (tab n f) (u .count ∙ sym (length-tab n f))
-    (λ j h. let l : j < n = omega (arith, u .count) in at j l (decLt j i) ∙ sym (getD-tab n f j 0 l))
-  where
-    at : (j : ℕ) → j < n → Dec (j < i) → getD xs j 0 ≡ f j
-    at j l (yes k) = u .done j k l
-    at j l (no k) = u .left j (omega arith) ∙ sym (z j (omega arith) l)
-
--- an entry that is f j or 0 is a symbol
-upto-below : {n i b : ℕ} {f : ℕ → ℕ} {xs : List ℕ} → 0 < b → ((j : ℕ) → f j < b) → Upto n i f xs → Below b xs
-upto-below {n} {i} {b} {f} {xs} p s u = All-of (λ (x : ℕ). x < b) xs 0 (λ j h. at j (omega (arith, u .count)) (decLt j i))
-  where
-    at : (j : ℕ) → j < n → Dec (j < i) → getD xs j 0 < b
-    at j l (yes k) = subst (λ (x : ℕ). x < b) (sym (u .done j k l)) (s j)
-    at j l (no k) = subst (λ (x : ℕ). x < b) (sym (u .left j (omega arith))) p
 
 module _ (m : ℕ) (irr : Irreducible m) (bs : List ℕ) (few : length bs ≤ 12) (sb : Below (2 ^ degree m) bs) where
   abbrev K : Ops
@@ -97,10 +53,10 @@ module _ (m : ℕ) (irr : Irreducible m) (bs : List ℕ) (few : length bs ≤ 12
 
   module _ {i : ℕ} {images steps inverses : List ℕ} (s : SoFar i images steps inverses) where
     pub steps-below : Below (2 ^ degree m) steps
-    steps-below = upto-below (pow-pos (degree m)) (step-sym F bs sb) (s .steps)
+    steps-below = upto-each (λ (x : ℕ). x < 2 ^ degree m) (pow-pos (degree m)) (λ j h. step-sym F bs sb j) (s .steps)
 
     pub inverses-below : Below (2 ^ degree m) inverses
-    inverses-below = upto-below (pow-pos (degree m)) inverses-symbol (s .inverses)
+    inverses-below = upto-each (λ (x : ℕ). x < 2 ^ degree m) (pow-pos (degree m)) (λ j h. inverses-symbol j) (s .inverses)
 
     -- the values of the subspace polynomials
     value-right : (j : ℕ) → j ≤ i → i ≤ length bs → (x : ℕ) → valueAt m steps j x ≡ W K bs j x

@@ -60,9 +60,14 @@ returns-2 c =
     let n = c .before .before .refusal in
     let a = c .before .before .before .before .args in
     let same : c .refused .result .refusal ≡ n .result = c .refused .ensures .0 in
-    inr ((omega (arith, c .before .if1 .left), subst (Answers (settingChecks (a .modulus) (a .basis .now))) (sym same)
-    (refused-first (modulusChecks (a .modulus) ++ basisChecks (a .modulus) (a .basis .now)) (spanChecks (a .modulus) (a .basis .now)) (n .result) (omega (arith, c .before .if1 .left)) (n .ensures))),
-    c .refused .ensures .1)
+    inr (
+      (
+        omega (arith, c .before .if1 .left),
+        subst (Answers (settingChecks (a .modulus) (a .basis .now))) (sym same)
+            (refused-first (modulusChecks (a .modulus) ++ basisChecks (a .modulus) (a .basis .now)) (spanChecks (a .modulus) (a .basis .now)) (n .result) (omega (arith, c .before .if1 .left)) (n .ensures)),
+      ),
+      c .refused .ensures .1,
+    )
 
 pub check-spec : {M : Type 1} → statement M
 check-spec =

@@ -4,7 +4,7 @@ use Prim.Native.Nat.{ℕ, _-_, _≤_}
 use native.Mathlib.Omega.{arith}
 use lib.ListN.{length, getD, List·getD-eq-default}
 use Rattle.space.specs.Setting.{paddedOf}
-use Rattle.space.proofs.Progress.{Upto, upto-none, upto-next, upto-all}
+use Rattle.lists.specs.Upto.{Upto, upto-none, upto-next, upto-all}
 use Rattle.space.proofs.padded.Statement.{statement}
 use Rattle.space.proofs.padded.Tie as tie
 

@@ -23,8 +23,11 @@ made-all : (f : Field) (bs : List ℕ) (t : Tables) (p : List ℕ) → Sized f �
     → Made (f .modulus) bs (record { refusal = 0; setting = record { field = f; space = record { k = length bs; images = t .images }; basis = p; steps = t .steps; inverses = t .inverses } })
 unfolding settingOf tablesOf noTables
 made-all f bs t p s (inl (ind, e)) i ep =
-    inl (inr ((λ dep. dep ind), refl), refl,
-    λ x. record { field = record { modulus = f .modulus; degree = s .right x }; space = record { k = length bs; images = e x .images }; basis = ep x; steps = e x .steps; inverses = e x .inverses })
+    inl (
+      inr ((λ dep. dep ind), refl),
+      refl,
+      λ x. record { field = record { modulus = f .modulus; degree = s .right x }; space = record { k = length bs; images = e x .images }; basis = ep x; steps = e x .steps; inverses = e x .inverses },
+    )
 made-all f bs t p s (inr (dep, e)) i ep = absurd (true-not-false i (ap (λ (u : Tables). u .independent) e))
 
 made-none : (m : ℕ) (bs : List ℕ) (t : Tables) (c : Checked) → Tabled m bs t → t .independent ≡ false → c .refusal ≡ 5 → c .setting ≡ noSetting → Made m bs c

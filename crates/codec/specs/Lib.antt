@@ -1,0 +1,4 @@
+-- Encoder and decoder: the change of basis between products of subspace polynomials and powers of x.
+pub mod Sparse
+pub mod Convert
+pub mod Scales

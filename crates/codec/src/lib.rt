@@ -1,0 +1,2 @@
+// Encoder and decoder.
+pub mod convert;
