@@ -1,5 +1,5 @@
 -- What holds of every entry of a list. Assumes nothing.
-use mathlib.Core.Path.{_≡_, sym, ap, _∙_, subst, subst⁻¹}
+use mathlib.Core.Path.{_≡_, refl, sym, ap, _∙_, subst, subst⁻¹}
 use mathlib.Core.List.{List, [], _∷_, _++_, map, zipWith}
 use Prim.Native.Nat.{ℕ, zero, suc, _+_, _-_, _≤_, _<_}
 use native.Mathlib.Nat.{zero-add, suc-add}
@@ -100,3 +100,9 @@ below-stable n (x ∷ xs) f = (by (decLt x n), below-stable n xs (λ g. f (λ h.
 
 pub zeros-below : (n : ℕ) (xs : List ℕ) → 0 < n → All IsZero xs → Below n xs
 zeros-below n xs h z = All-weaken IsZero (λ x. x < n) xs (λ x e. subst (λ (y : ℕ). y < n) (sym e) h) z
+
+-- every entry of zeros, and past the end the default
+pub zeros-at : (n p : ℕ) → getD (replicate {A = ℕ} n 0) p 0 ≡ 0
+zeros-at zero p = refl
+zeros-at (suc n) zero = refl
+zeros-at (suc n) (suc p) = zeros-at n p

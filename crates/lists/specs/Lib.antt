@@ -3,6 +3,7 @@ pub mod All
 pub mod Answers
 pub mod Decides
 pub mod Filled
+pub mod Lanes
 pub mod Members
 pub mod Overwrite
 pub mod Pick

@@ -6,7 +6,7 @@ use native.Mathlib.Nat.{suc-mul}
 use native.Mathlib.Omega.{arith}
 use native.Mathlib.Numerals.{add-one}
 use lib.ListN.{length, take, drop, getD, set, length-append, length-take, length-drop, length-set, drop-of-length-le, List·getD-append}
-use lib.Seq.{set-append-left, take-at, drop-at, take-all, length-take-le}
+use lib.Seq.{set-append-left, take-at, drop-at, take-all, length-take-le, getD-take, getD-drop}
 use borrow.Rule.Slice.PartMut.{putMid, same-len-mid}
 
 -- the first i elements of `new`, and the rest of `old`
@@ -162,6 +162,9 @@ take-put-end a k xs ys h e =
 -- the same for a part from a to a + k, as the code cuts it
 pub length-cut : (a k : ℕ) (xs : List ℕ) → a + k ≤ length xs → length (take (a + k - a) (drop a xs)) ≡ k
 length-cut a k xs h = simp (length-take, length-drop) (omega arith)
+
+pub getD-cut : (a k : ℕ) (xs : List ℕ) (i : ℕ) → i < k → getD (take (a + k - a) (drop a xs)) i 0 ≡ getD xs (a + i) 0
+getD-cut a k xs i h = getD-take (a + k - a) (drop a xs) i 0 (omega arith) ∙ getD-drop a xs i 0
 
 pub length-put-cut : (a k : ℕ) (xs ys : List ℕ) → a + k ≤ length xs → length ys ≡ k → length (putMid a (a + k - a) xs ys) ≡ length xs
 length-put-cut a k xs ys h e = let count : a + k - a ≡ k = omega arith in rw count (length-put a k xs ys h e)

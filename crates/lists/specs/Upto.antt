@@ -1,12 +1,12 @@
 -- A list that is filled from its front, with zeros behind. Assumes nothing.
-use mathlib.Core.Path.{_≡_, refl, sym, ap, _∙_, subst}
+use mathlib.Core.Path.{_≡_, sym, ap, _∙_, subst}
 use mathlib.Core.List.{List}
-use Prim.Native.Nat.{ℕ, zero, suc, _+_, _≤_, _<_}
+use Prim.Native.Nat.{ℕ, _+_, _≤_, _<_}
 use native.Mathlib.Decide.{decLt, ℕ-discrete}
 use native.Mathlib.Omega.{arith}
 use lib.ListN.{length, getD, set, replicate, length-set, length-replicate}
 use lib.Seq.{ext-getD, getD-set-same, getD-set-other}
-use Rattle.lists.specs.All.{All, All-of}
+use Rattle.lists.specs.All.{All, All-of, zeros-at}
 use Rattle.lists.specs.Tables.{tab, length-tab, getD-tab}
 
 -- a list of n entries: f below i, and 0 from i on
@@ -14,11 +14,6 @@ pub record Upto (n i : ℕ) (f : ℕ → ℕ) (xs : List ℕ) : Type 0 where
   pub count : length xs ≡ n
   pub done : (j : ℕ) → j < i → j < n → getD xs j 0 ≡ f j
   pub left : (j : ℕ) → i ≤ j → getD xs j 0 ≡ 0
-
-pub zeros-at : (n j : ℕ) → getD (replicate {A = ℕ} n 0) j 0 ≡ 0
-zeros-at zero j = refl
-zeros-at (suc n) zero = refl
-zeros-at (suc n) (suc j) = zeros-at n j
 
 pub upto-none : (n : ℕ) (f : ℕ → ℕ) → Upto n 0 f (replicate n 0)
 upto-none n f = record { count = length-replicate {A = ℕ} n 0; done = λ j h k. absurd (omega arith); left = λ j h. zeros-at n j }

@@ -5,7 +5,7 @@ use mathlib.Core.List.{List, [], _∷_}
 use Prim.Native.Nat.{ℕ, zero, suc, _+_, _<_, max}
 use native.Mathlib.Nat.{suc-inj, suc-ne-zero}
 use native.Mathlib.Omega.{arith}
-use lib.ListN.{length, take, drop}
+use lib.ListN.{length, getD, take, drop}
 use Rattle.lists.specs.All.{All, IsZero}
 use Rattle.field.specs.Laws.{combine, Ops, IsField, ring, sums, ⊕-zero, ⊗-zero, ⊕-0, ⊗-0}
 
@@ -56,6 +56,17 @@ module _ (K : Ops) where
   pub length-scaleP : (a : ℕ) (p : List ℕ) → length (scaleP a p) ≡ length p
   length-scaleP a [] = refl
   length-scaleP a (c ∷ p) = ap suc (length-scaleP a p)
+
+  pub getD-addP : (p q : List ℕ) (i : ℕ) → i < length p → i < length q → getD (addP p q) i 0 ≡ getD p i 0 ⊕ getD q i 0
+  getD-addP [] q i hp hq = absurd (omega arith)
+  getD-addP (c ∷ p) [] i hp hq = absurd (omega arith)
+  getD-addP (c ∷ p) (d ∷ q) zero hp hq = refl
+  getD-addP (c ∷ p) (d ∷ q) (suc i) hp hq = getD-addP p q i (omega arith) (omega arith)
+
+  pub getD-scaleP : (a : ℕ) (p : List ℕ) (i : ℕ) → i < length p → getD (scaleP a p) i 0 ≡ a ⊗ getD p i 0
+  getD-scaleP a [] i h = absurd (omega arith)
+  getD-scaleP a (c ∷ p) zero h = refl
+  getD-scaleP a (c ∷ p) (suc i) h = getD-scaleP a p i (omega arith)
 
   pub length-mulP : (p q : List ℕ) → 0 < length p → 0 < length q → length (mulP p q) + 1 ≡ length p + length q
   length-mulP [] q hp hq = absurd (omega arith)

@@ -1,0 +1,9 @@
+-- Laws that belong to no one function.
+pub mod Alike
+pub mod BlockLaws
+pub mod CodewordTest
+pub mod Halves
+pub mod Layers
+pub mod Scaling
+pub mod SpanLists
+pub mod Written

@@ -1,0 +1,6 @@
+-- The transform on lanes and the codeword test.
+pub mod Blocks
+pub mod Lanes
+pub mod Layers
+pub mod Slices
+pub mod Spans

@@ -1,0 +1,54 @@
+// The images of the elements of a span, as lanes of a transform.
+ghost use mathlib.Core.Path.{_≡_};
+ghost use Prim.Native.Nat.{ℕ, _+_, _*_, _<_, _≤_, _^_};
+ghost use lib.ListN.{length, getD};
+ghost use Rattle.lists.specs.Filled.{Filled};
+ghost use Rattle.field.specs.Binary.{_⊕_};
+ghost use Rattle.transform.specs.Spans.{Zeros, SpanList, SpanLanes};
+
+fn no_lanes() -> [u16; 384]
+    ensures { λ r. ⌜ Zeros 384 r ⌝ }
+{
+    [0u16; 384]
+}
+
+// The first n numbers of a list again after them, with x added.
+fn add_element(x: u16, n: usize, list: &mut [u16])
+    requires { ⌜ n + n ≤ length (now list) ⌝ }
+    ensures { λ _. ⌜ Filled n n (λ (e : ℕ). getD (now (list .entry)) e 0 ⊕ x) (now (list .entry)) (now (list .exit)) ⌝ }
+{
+    let mut e = 0;
+    while e < n {
+        list[n + e] = list[e] ^ x;
+        e += 1;
+    }
+}
+
+// The images of number j of the 2^c elements.
+fn span_list(images: &[u16; 192], from: usize, c: usize, j: usize, list: &mut [u16])
+    requires { ⌜ (from + c ≤ 12) × (j < 16) × (length (now list) ≡ 2 ^ c) ⌝ }
+    ensures { λ _. ⌜ SpanList (now (images .entry)) from c j (2 ^ c) (now (list .exit)) ⌝ }
+{
+    list[0] = 0;
+    let mut i = 0;
+    while i < c {
+        add_element(images[16 * (from + i) + j], 1usize << i, list);
+        i += 1;
+    }
+}
+
+// The lanes of the span of c basis elements, from number `from` on: m lists of 2^c, list j with the
+// images of number j.
+pub fn span_lanes(images: &[u16; 192], from: usize, c: usize, m: usize) -> [u16; 384]
+    requires { ⌜ (m * 2 ^ c ≤ 384) × (from + c ≤ 12) × (m ≤ 16) ⌝ }
+    ensures { λ r. ⌜ SpanLanes (now (images .entry)) from c m r ⌝ }
+{
+    let mut lanes = no_lanes();
+    let n = 1usize << c;
+    let mut j = 0;
+    while j < m {
+        span_list(images, from, c, j, &mut lanes[j * n..j * n + n]);
+        j += 1;
+    }
+    lanes
+}
