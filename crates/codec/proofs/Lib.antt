@@ -5,3 +5,5 @@ pub mod Folding
 pub mod Recursion
 pub mod Scaling
 pub mod Bases
+pub mod Loading
+pub mod NovelLaws

@@ -115,4 +115,4 @@ module _ (q : ℕ) (irr : Irreducible q) (steps : List ℕ) where
         split-drop xs = sym (lib.Seq.drop-drop n n xs)
 
   pub scales-all : {j m : ℕ} {out : List ℕ} → j ≡ m → Doubled j out → Scales q steps m out
-  scales-all {j} {m} {out} e d = record { below = d .below; right = subst (λ (k : ℕ). take (2 ^ k) out ≡ scalesOf K s k) e (d .right) }
+  scales-all {j} {m} {out} e d = record { count = d .count; below = d .below; right = subst (λ (k : ℕ). take (2 ^ k) out ≡ scalesOf K s k) e (d .right) }

@@ -2,7 +2,7 @@
 use mathlib.Core.Path.{_≡_}
 use mathlib.Core.List.{List, [], _∷_, _++_}
 use Prim.Native.Nat.{ℕ, zero, suc, _^_}
-use lib.ListN.{getD, take, replicate}
+use lib.ListN.{length, getD, take, replicate}
 use Rattle.lists.specs.All.{Below}
 use Rattle.field.specs.Binary.{degree}
 use Rattle.field.specs.Laws.{Ops}
@@ -18,5 +18,6 @@ unfoldable pub zeroRoom : List ℕ
 zeroRoom = replicate 512 0
 
 pub record Scales (q : ℕ) (steps : List ℕ) (m : ℕ) (r : List ℕ) : Type 0 where
+  pub count : length r ≡ 512
   pub below : Below (2 ^ degree q) r
   pub right : take (2 ^ m) r ≡ scalesOf (symbols q) (λ j. getD steps j 0) m

@@ -12,8 +12,15 @@ ghost use Rattle.codec.specs.Sparse.{Sparse, zeroCells};
 ghost use Rattle.codec.specs.Convert.{Tabled, Zeros, Folded, Expanded, Monomials};
 ghost use Rattle.codec.specs.Scales.{Scales, zeroRoom};
 
+// 256 zeros.
+pub fn none() -> [u16; 256]
+    ensures { λ r. ⌜ Zeros r ⌝ }
+{
+    [0u16; 256]
+}
+
 // 2^j.
-fn power(j: usize) -> usize
+pub fn power(j: usize) -> usize
     requires { ⌜ j ≤ 12 ⌝ }
     ensures { λ r. ⌜ r ≡ 2 ^ j ⌝ }
 {
