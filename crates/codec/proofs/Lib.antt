@@ -7,3 +7,5 @@ pub mod Scaling
 pub mod Bases
 pub mod Loading
 pub mod NovelLaws
+pub mod Spreading
+pub mod WordLaws

@@ -9,7 +9,9 @@ use Rattle.field.specs.Binary.{degree, Irreducible}
 use Rattle.field.specs.Products.{Sized}
 use Rattle.field.specs.Symbols.{symbols}
 use Rattle.poly.specs.Degree.{monomials}
-use Rattle.poly.specs.Codeword.{Basis, wordOf}
+use Rattle.poly.specs.Codeword.{Basis, wordOf, Codeword}
+use Rattle.field.specs.declared.Field.{Field}
+use Rattle.poly.specs.Blocks.{blockCoeffs}
 use Rattle.space.specs.Images.{Images}
 use Rattle.space.specs.declared.Setting.{Setting}
 use Rattle.transform.specs.Blocks.{block}
@@ -34,8 +36,24 @@ pub record Lengths (s : Setting) (coefficients word scratch : List ℕ) : Type 0
   pub whole : length word ≡ 2 ^ s .space .k
   pub room : 4 * 2 ^ s .space .k ≤ length scratch
 
+-- coefficients over the novel basis, for the eight blocks of a word of 2^k symbols
+pub record Filling (f : Field) (images : List ℕ) (k : ℕ) (d : List ℕ) : Type 0 where
+  pub sized : Sized f
+  pub irreducible : Irreducible (f .modulus)
+  pub low : 3 ≤ k
+  pub high : k ≤ 12
+  pub image-symbols : Below (2 ^ degree (f .modulus)) images
+  pub symbols : Below (2 ^ degree (f .modulus)) d
+  pub count : length d ≡ 2 ^ (k - 3)
+
 -- the lanes are the blocks of the word of the polynomial with the coefficients d over the novel basis
 abbrev pub LanesOf : ℕ → List ℕ → ℕ → List ℕ → List ℕ → Type 0
 LanesOf q images k d lanes =
     (b : List ℕ) → Basis (symbols q) k b → Images (symbols q) b images → (r : ℕ) → r < 8
     → block k r lanes ≡ part (2 ^ (k - 3)) r (wordOf (symbols q) k b (monomials (symbols q) b (k - 3) d))
+
+-- the word is a codeword, and lane 0 has the coefficients of its block 0
+abbrev pub InBlockZero : Setting → List ℕ → List ℕ → List ℕ → Type 0
+InBlockZero s bs word scratch =
+    Below (2 ^ degree (s .field .modulus)) word × (length word ≡ 2 ^ s .space .k) × Codeword (symbols (s .field .modulus)) (s .space .k) bs word
+    × (block (s .space .k) 0 scratch ≡ blockCoeffs (symbols (s .field .modulus)) (s .space .k) bs word 0)
