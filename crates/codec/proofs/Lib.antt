@@ -9,3 +9,4 @@ pub mod Loading
 pub mod NovelLaws
 pub mod Spreading
 pub mod WordLaws
+pub mod CallLaws

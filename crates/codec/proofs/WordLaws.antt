@@ -1,13 +1,15 @@
 -- From coefficients to the word and back, in a setting that passed its checks. Assumes nothing.
 use mathlib.Core.Path.{_≡_, sym, ap, _∙_, subst}
-use mathlib.Core.List.{List}
+use mathlib.Core.Bool.{Bool, true, false}
+use mathlib.Core.List.{List, _++_}
 use Prim.Native.Nat.{ℕ, _+_, _-_, _*_, _^_, _≤_, _<_}
 use native.Mathlib.Nat.{mul-comm}
 use native.Mathlib.Omega.{arith}
-use lib.ListN.{length, getD}
+use lib.ListN.{length, getD, List·getD-append}
 use lib.Seq.{ext-getD}
 use Rattle.lists.specs.All.{Below}
-use Rattle.lists.specs.Lanes.{lane, getD-lane, length-lane}
+use Rattle.lists.specs.Decides.{decides-true, decides-false}
+use Rattle.lists.specs.Lanes.{lane-ext, lane-each, place-fits, lane, getD-lane, length-lane}
 use Rattle.lists.specs.Stretch.{stretch}
 use Rattle.lists.specs.Tables.{part, part-ext, part-fits, length-part, getD-part, length-tab, getD-tab, tab-ext}
 use Rattle.field.specs.Binary.{degree}
@@ -23,7 +25,7 @@ use Rattle.space.specs.Ready.{Ready, steps-below, inverses-below}
 use Rattle.space.specs.Sound.{sound-field}
 use Rattle.space.specs.declared.Setting.{Setting}
 use Rattle.transform.specs.Slices.{Transposed}
-use Rattle.transform.specs.Blocks.{block, InBlocks, BlocksEvaluated}
+use Rattle.transform.specs.Blocks.{block, InBlocks, BlocksEvaluated, Tested}
 use Rattle.transform.proofs.BlockLaws.{eight}
 use Rattle.codec.specs.Novel.{Stepped, StepsOf, NovelOf, PowersOf}
 use Rattle.codec.specs.Words.{spreadOf, Usable, Filling, LanesOf, InBlockZero}
@@ -157,3 +159,31 @@ module _ {s : Setting} {bs : List ℕ} (r : Ready (s .field .modulus) bs s) wher
           ∙ ap (λ (l : List ℕ). evalX (symbols q) bs (k - 3) l x) (ed ∙ e0)
           ∙ codeword-values (ready-field r) k (usable r .low) bs (ready-basis r) word lw bw p′ l′ s′ e x sx))
           ∙ ap (λ (i : ℕ). wordOf (symbols q) i bs p) (r .dimension)
+
+-- ---- the codeword test
+
+module _ {s : Setting} (u : Usable s) (word work rest : List ℕ) (lw : length work ≡ 2 ^ s .space .k) where
+  -- the lanes stand in front
+  front-block : block (s .space .k) 0 (work ++ rest) ≡ block (s .space .k) 0 work
+  front-block =
+      lane-ext 8 0 (2 ^ (s .space .k - 3)) (work ++ rest) work
+      (λ o h. List·getD-append work rest 0 (o * 8 + 0) (omega (arith, place-fits {count = 8} {n = 2 ^ (s .space .k - 3)} {o = o} {r = 0} h (omega arith), eight (s .space .k) (u .low))))
+
+  pub front-below : Below (2 ^ degree (s .field .modulus)) work → Below (2 ^ degree (s .field .modulus)) (lane 8 0 (2 ^ (s .space .k - 3)) (work ++ rest))
+  front-below b =
+      subst (Below (2 ^ degree (s .field .modulus))) (sym front-block)
+      (lane-each (λ (x : ℕ). x < 2 ^ degree (s .field .modulus)) 8 0 (2 ^ (s .space .k - 3)) work (lib.Pow.pow-pos (degree (s .field .modulus))) b)
+
+  module _ {answer : Bool} (t : Tested (s .field .modulus) (s .space .images) (s .space .k) word answer work) {bs : List ℕ} (r : Ready (s .field .modulus) bs s) where
+    pub tested-zero : Below (2 ^ degree (s .field .modulus)) word → length word ≡ 2 ^ s .space .k → answer ≡ true → InBlockZero s bs word (work ++ rest)
+    tested-zero bw l e = (
+      bw,
+      l,
+      decides-true (Codeword (symbols (s .field .modulus)) (s .space .k) bs word) (t .decides bs (ready-basis r) (r .images)) e,
+      front-block ∙ t .coeffs bs (ready-basis r) (r .images) 0 (omega arith),
+    )
+
+    pub tested-none : answer ≡ false → Codeword (symbols (s .field .modulus)) (length bs) bs word → ⊥
+    tested-none e c =
+        decides-false (Codeword (symbols (s .field .modulus)) (s .space .k) bs word) (t .decides bs (ready-basis r) (r .images)) e
+        (subst (λ (i : ℕ). Codeword (symbols (s .field .modulus)) i bs word) (sym (r .dimension)) c)

@@ -5,7 +5,7 @@ use mathlib.Core.List.{List, [], _∷_, _++_}
 use Prim.Native.Nat.{ℕ, _*_, _-_, _^_, _<_}
 use lib.ListN.{length}
 use Rattle.lists.specs.All.{All, Below}
-use Rattle.lists.specs.Answers.{Checks}
+use Rattle.lists.specs.Answers.{Checks, Answers}
 use Rattle.lists.specs.Calls.{Accepted, RefusedWith}
 use Rattle.field.specs.Binary.{degree}
 use Rattle.field.specs.Symbols.{symbols}
@@ -17,6 +17,10 @@ use Rattle.codec.specs.declared.Outcome.the-variants.{Done, Refused}
 -- checks 6 and 7 at dimension k, of the lengths of the coefficients, the word and the scratch
 abbrev pub lengthChecks : ℕ → ℕ → ℕ → ℕ → Checks
 lengthChecks k coefficients word scratch = (6, (coefficients ≢ 2 ^ (k - 3)) ⊎ (word ≢ 2 ^ k)) ∷ (7, scratch < 4 * 2 ^ k) ∷ []
+
+-- the answer of checks 1 to 7, from that of checks 1 to 5
+abbrev pub Early : ℕ → ℕ → ℕ → ℕ → ℕ → ℕ → Type 0
+Early refusal k coefficients word scratch r = ((refusal ≡ 0) × Answers (lengthChecks k coefficients word scratch) r) ⊎ ((0 < refusal) × (r ≡ refusal))
 
 -- check 9, of symbols that are read
 abbrev pub symbolChecks : ℕ → List ℕ → Checks

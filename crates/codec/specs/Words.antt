@@ -1,5 +1,6 @@
 -- Words from coefficients and back, in a setting that passed its checks.
 use mathlib.Core.Path.{_≡_}
+use mathlib.Core.Logic.{_⊎_}
 use mathlib.Core.List.{List}
 use Prim.Native.Nat.{ℕ, _*_, _/_, _-_, _^_, _≤_, _<_}
 use lib.ListN.{length, getD}
@@ -13,7 +14,9 @@ use Rattle.poly.specs.Codeword.{Basis, wordOf, Codeword}
 use Rattle.field.specs.declared.Field.{Field}
 use Rattle.poly.specs.Blocks.{blockCoeffs}
 use Rattle.space.specs.Images.{Images}
+use Rattle.space.specs.Ready.{Ready}
 use Rattle.space.specs.declared.Setting.{Setting}
+use Rattle.codec.specs.Calls.{CoefficientsOf}
 use Rattle.transform.specs.Blocks.{block}
 
 -- each number 8 times
@@ -57,3 +60,18 @@ abbrev pub InBlockZero : Setting → List ℕ → List ℕ → List ℕ → Type
 InBlockZero s bs word scratch =
     Below (2 ^ degree (s .field .modulus)) word × (length word ≡ 2 ^ s .space .k) × Codeword (symbols (s .field .modulus)) (s .space .k) bs word
     × (block (s .space .k) 0 scratch ≡ blockCoeffs (symbols (s .field .modulus)) (s .space .k) bs word 0)
+
+-- the word of the coefficients; or 9, and the word as it came
+abbrev pub EncodedWith : Setting → List ℕ → List ℕ → List ℕ → ℕ → Type 0
+EncodedWith s p old new r =
+    ((r ≡ 0) × Below (2 ^ degree (s .field .modulus)) p
+    × ((bs : List ℕ) → Ready (s .field .modulus) bs s → new ≡ wordOf (symbols (s .field .modulus)) (length bs) bs p))
+    ⊎ ((r ≡ 9) × (Below (2 ^ degree (s .field .modulus)) p → ⊥) × (new ≡ old))
+
+-- the coefficients of the word; or 9 or 10, and the coefficients as they came
+abbrev pub DecodedWith : Setting → List ℕ → List ℕ → List ℕ → ℕ → Type 0
+DecodedWith s word old new r =
+    ((r ≡ 0) × Below (2 ^ degree (s .field .modulus)) word × ((bs : List ℕ) → Ready (s .field .modulus) bs s → CoefficientsOf (s .field .modulus) bs word new))
+    ⊎ (((r ≡ 9) × (Below (2 ^ degree (s .field .modulus)) word → ⊥) × (new ≡ old))
+    ⊎ ((r ≡ 10) × Below (2 ^ degree (s .field .modulus)) word
+    × ((bs : List ℕ) → Ready (s .field .modulus) bs s → Codeword (symbols (s .field .modulus)) (length bs) bs word → ⊥) × (new ≡ old)))
