@@ -1,9 +1,8 @@
 -- The checks of the two calls, and what each exit leaves. Assumes nothing.
 use mathlib.Core.Path.{_≡_, refl, sym, ap, _∙_, subst}
-use mathlib.Core.Logic.{_⊎_, inl, inr, _≢_}
+use mathlib.Core.Logic.{inl, inr, _≢_}
 use mathlib.Core.List.{List, _++_}
-use Prim.Native.Nat.{ℕ, _*_, _/_, _-_, _^_, _≤_, _<_}
-use native.Mathlib.Decide.{ℕ-discrete}
+use Prim.Native.Nat.{ℕ, _*_, _/_, _-_, _^_, _≤_}
 use native.Mathlib.Omega.{arith}
 use lib.ListN.{length}
 use Rattle.lists.specs.All.{Below}
@@ -19,75 +18,38 @@ use Rattle.space.specs.declared.Checked.{Checked}
 use Rattle.space.specs.declared.Setting.{Setting}
 use Rattle.transform.proofs.BlockLaws.{eight}
 use Rattle.codec.specs.Calls.{lengthChecks, Early, symbolChecks, wordChecks, CoefficientsOf}
+use Rattle.codec.specs.Checks.{earlyChecks, lengths-passed}
 use Rattle.codec.specs.Words.{Usable, Lengths, EncodedWith, DecodedWith}
 use Rattle.codec.proofs.WordLaws.{usable}
-
--- ---- checks 6 and 7
 
 -- an eighth of the word
 pub eighth-is : (k n : ℕ) → 3 ≤ k → n ≡ 2 ^ k → n / 8 ≡ 2 ^ (k - 3)
 eighth-is k n h e = omega (arith, eight k h)
 
-same : (x y : ℕ) → (x ≢ y → ⊥) → x ≡ y
-same x y f = by (ℕ-discrete x y)
-  where
-    by : Dec (x ≡ y) → x ≡ y
-    by (yes e) = e
-    by (no n) = absurd (f n)
-
-module _ (k a b s : ℕ) where
-  -- both lengths are right
-  neither : a ≡ 2 ^ (k - 3) → b ≡ 2 ^ k → (a ≢ 2 ^ (k - 3)) ⊎ (b ≢ 2 ^ k) → ⊥
-  neither ea eb (inl h) = h ea
-  neither ea eb (inr h) = h eb
-
-  pub six-coefficients : a ≢ 2 ^ (k - 3) → Answers (lengthChecks k a b s) 6
-  six-coefficients h = inl (inl h, refl)
-
-  pub six-word : b ≢ 2 ^ k → Answers (lengthChecks k a b s) 6
-  six-word h = inl (inr h, refl)
-
-  pub seven : a ≡ 2 ^ (k - 3) → b ≡ 2 ^ k → s < 4 * 2 ^ k → Answers (lengthChecks k a b s) 7
-  seven ea eb h = inr (neither ea eb, inl (h, refl))
-
-  pub lengths-right : a ≡ 2 ^ (k - 3) → b ≡ 2 ^ k → 4 * 2 ^ k ≤ s → Passes (lengthChecks k a b s)
-  lengths-right ea eb h = inr (neither ea eb, inr ((λ l. omega arith), refl))
-
-  pub lengths-passed : Passes (lengthChecks k a b s) → (a ≡ 2 ^ (k - 3)) × (b ≡ 2 ^ k) × (4 * 2 ^ k ≤ s)
-  lengths-passed (inl p) = absurd (omega arith)
-  lengths-passed (inr (n, inl p)) = absurd (omega arith)
-  lengths-passed (inr (n, inr p)) = (same a (2 ^ (k - 3)) (λ f. n (inl f)), same b (2 ^ k) (λ f. n (inr f)), omega (arith, p .0))
-
 -- ---- checks 1 to 7
 
 module _ (m : ℕ) (bs : List ℕ) (a b s : ℕ) where
-  abbrev pub earlyChecks : Checks
-  earlyChecks = settingChecks m bs ++ lengthChecks (length bs) a b s
-
-  pub early-numbered : Numbered earlyChecks
-  early-numbered = (omega arith, (omega arith, (omega arith, (omega arith, (omega arith, (omega arith, (omega arith, tt)))))))
-
-  early-within : Within 7 earlyChecks
+  early-within : Within 7 (earlyChecks m bs a b s)
   early-within = (omega arith, (omega arith, (omega arith, (omega arith, (omega arith, (omega arith, (omega arith, tt)))))))
 
   module _ (c : Checked) (set : Settled m bs c) where
     pub dimensions : c .refusal ≡ 0 → (3 ≤ length bs) × (length bs ≤ 12)
     dimensions e = let r = ready m bs c set e in (r .sound .low, r .sound .high)
 
-    early-answer : (r : ℕ) → Early (c .refusal) (length bs) a b s r → Answers earlyChecks r
+    early-answer : (r : ℕ) → Early (c .refusal) (length bs) a b s r → Answers (earlyChecks m bs a b s) r
     early-answer r (inl (z, p)) =
         answers-after (settingChecks m bs) (lengthChecks (length bs) a b s) r (setting-numbered m bs) (subst (Answers (settingChecks m bs)) z (settled-answer m bs c set)) p
     early-answer r (inr (l, e)) =
         refused-first (settingChecks m bs) (lengthChecks (length bs) a b s) r (omega arith) (subst (Answers (settingChecks m bs)) (sym e) (settled-answer m bs c set))
 
     -- a refusal by checks 1 to 7
-    pub early-refused : (ds : Checks) (r : ℕ) (old scratch : List ℕ) → Early (c .refusal) (length bs) a b s r → r ≢ 0 → RefusedWith (earlyChecks ++ ds) r old old scratch scratch
-    early-refused ds r old scratch e n = refused-early earlyChecks ds r old scratch early-within (omega (arith, n)) (early-answer r e)
+    pub early-refused : (ds : Checks) (r : ℕ) (old scratch : List ℕ) → Early (c .refusal) (length bs) a b s r → r ≢ 0 → RefusedWith ((earlyChecks m bs a b s) ++ ds) r old old scratch scratch
+    early-refused ds r old scratch e n = refused-early (earlyChecks m bs a b s) ds r old scratch early-within (omega (arith, n)) (early-answer r e)
 
     -- past them
     module _ (r : ℕ) (e : Early (c .refusal) (length bs) a b s r) (z : r ≡ 0) where
-      pub early-passes : Passes earlyChecks
-      early-passes = subst (Answers earlyChecks) z (early-answer r e)
+      pub early-passes : Passes (earlyChecks m bs a b s)
+      early-passes = subst (Answers (earlyChecks m bs a b s)) z (early-answer r e)
 
       first-zero : Early (c .refusal) (length bs) a b s r → c .refusal ≡ 0
       first-zero (inl (y, p)) = y

@@ -4,4 +4,6 @@ pub mod Convert
 pub mod Scales
 pub mod Novel
 pub mod Calls
+pub mod Checks
 pub mod Words
+pub mod RoundTrip

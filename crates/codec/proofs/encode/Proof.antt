@@ -8,7 +8,8 @@ use Rattle.lists.specs.Answers.{Passes}
 use Rattle.lists.specs.Calls.{zeros}
 use Rattle.space.specs.Ready.{Ready}
 use Rattle.codec.specs.Calls.{symbolChecks}
-use Rattle.codec.proofs.CallLaws.{earlyChecks, early-numbered, early-passes, early-ready, early-lengths, early-refused, dimensions, ready-usable, ready-lengths, encode-done, encode-refused}
+use Rattle.codec.specs.Checks.{earlyChecks, early-numbered}
+use Rattle.codec.proofs.CallLaws.{early-passes, early-ready, early-lengths, early-refused, dimensions, ready-usable, ready-lengths, encode-done, encode-refused}
 use Rattle.codec.proofs.encode.Statement.{statement}
 use Rattle.codec.proofs.encode.Tie as tie
 
