@@ -1,9 +1,16 @@
 -- Answers as numbers.
 use Prim.Native.Nat.{ℕ, _+_, _%_}
+use Rattle.codec.specs.declared.Outcome.{Outcome}
+use Rattle.codec.specs.declared.Outcome.the-variants as outcome
 use Rattle.field.specs.declared.Value.{Value}
 use Rattle.field.specs.declared.Value.the-variants.{Symbol, Refused}
 use Rattle.verifier.specs.declared.Verdict.{Verdict}
 use Rattle.verifier.specs.declared.Verdict.the-variants as verdict
+
+-- 0, or the number of the refusal
+abbrev pub outcomeCode : Outcome → ℕ
+outcomeCode outcome.Done = 0
+outcomeCode (outcome.Refused n) = n
 
 -- the symbol, or 65536 and the number of the refusal
 abbrev pub valueCode : Value → ℕ
