@@ -3,19 +3,12 @@ use mathlib.Core.Path.{_≡_, refl}
 use mathlib.Core.Logic.{_⊎_, inl, inr, _≢_}
 use mathlib.Core.List.{List, _++_}
 use Prim.Native.Nat.{ℕ, _*_, _-_, _^_, _≤_, _<_}
-use native.Mathlib.Decide.{ℕ-discrete}
 use native.Mathlib.Omega.{arith}
 use lib.ListN.{length}
 use Rattle.lists.specs.Answers.{Checks, Answers, Passes, Numbered}
+use Rattle.lists.specs.Decides.{equal-stable}
 use Rattle.space.specs.Setting.{settingChecks}
 use Rattle.codec.specs.Calls.{lengthChecks}
-
-same : (x y : ℕ) → (x ≢ y → ⊥) → x ≡ y
-same x y f = by (ℕ-discrete x y)
-  where
-    by : Dec (x ≡ y) → x ≡ y
-    by (yes e) = e
-    by (no n) = absurd (f n)
 
 module _ (k a b s : ℕ) where
   -- both lengths are right
@@ -38,7 +31,7 @@ module _ (k a b s : ℕ) where
   pub lengths-passed : Passes (lengthChecks k a b s) → (a ≡ 2 ^ (k - 3)) × (b ≡ 2 ^ k) × (4 * 2 ^ k ≤ s)
   lengths-passed (inl p) = absurd (omega arith)
   lengths-passed (inr (n, inl p)) = absurd (omega arith)
-  lengths-passed (inr (n, inr p)) = (same a (2 ^ (k - 3)) (λ f. n (inl f)), same b (2 ^ k) (λ f. n (inr f)), omega (arith, p .0))
+  lengths-passed (inr (n, inr p)) = (equal-stable a (2 ^ (k - 3)) (λ f. n (inl f)), equal-stable b (2 ^ k) (λ f. n (inr f)), omega (arith, p .0))
 
 module _ (m : ℕ) (bs : List ℕ) (a b s : ℕ) where
   abbrev pub earlyChecks : Checks

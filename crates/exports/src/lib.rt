@@ -1,15 +1,21 @@
 // The public calls for programs in other languages, used by the tests and the benchmark. An answer
 // is one number: a definition in specs/Codes.antt says which.
 use codec::Outcome;
+use field::Field;
 use field::Value;
+use field::modulus::all_symbols;
+use field::modulus::field_of;
+use field::modulus::modulus_refusal;
 use verifier::Verdict;
 ghost use mathlib.Core.Path.{_≡_};
 ghost use Rattle.field.specs.Binary.{_⊕_, product};
 ghost use Rattle.field.specs.Calls.{fieldChecks, Told};
 ghost use Rattle.codec.specs.Calls.{Encoded, Decoded};
+ghost use Rattle.field.specs.Products.{Sized};
 ghost use Rattle.lists.specs.Answers.{Answers};
 ghost use Rattle.space.specs.Setting.{settingChecks};
 ghost use Rattle.verifier.specs.Checker;
+ghost use Rattle.exports.specs.Lists.{listChecks, productChecks, Added};
 ghost use Rattle.exports.specs.Codes.{outcomeCode, valueCode, verdictCode};
 
 fn value_code(v: Value) -> u32
@@ -52,6 +58,48 @@ pub extern "C" fn proximity_product(modulus: u32, a: u16, b: u16) -> u32
     ensures { λ r. ⌜ ((v : Value) × Told (fieldChecks modulus a b) (product modulus a b) v × (r ≡ valueCode v)) ⌝ }
 {
     value_code(field::product(modulus, a, b))
+}
+
+// Checks 6 and 9 of two lists.
+fn list_refusal(f: Field, factors: &[u16], values: &[u16]) -> u8
+    requires { ⌜ Sized f ⌝ }
+    ensures { λ r. ⌜ Answers (listChecks (f .modulus) (now (factors .entry)) (now (values .entry))) r ⌝ }
+{
+    if values.len() / 2 != factors.len() {
+        return 6;
+    }
+    if all_symbols(f, factors) {
+        if all_symbols(f, values) {
+            return 0;
+        }
+        return 9;
+    }
+    9
+}
+
+// Checks 1, 2, 6 and 9.
+fn product_refusal(modulus: u32, factors: &[u16], values: &[u16]) -> u8
+    ensures { λ r. ⌜ Answers (productChecks modulus (now (factors .entry)) (now (values .entry))) r ⌝ }
+{
+    let refusal = modulus_refusal(modulus);
+    if refusal != 0 {
+        return refusal;
+    }
+    list_refusal(field_of(modulus), factors, values)
+}
+
+// Adds the products of the factors and the second half of the values to the first half.
+#[no_mangle]
+pub extern "C" fn proximity_products(modulus: u32, factors: &[u16], values: &mut [u16]) -> u32
+    ensures { λ r. ⌜ Answers (productChecks modulus (now (factors .entry)) (now (values .entry))) r × Added modulus (now (factors .entry)) (now (values .entry)) (now (values .exit)) r ⌝ }
+{
+    let refusal = product_refusal(modulus, factors, values);
+    if refusal != 0 {
+        return refusal as u32;
+    }
+    let n = factors.len();
+    field::products::add_products(field_of(modulus), factors, 0, n, 0, values);
+    0
 }
 
 #[no_mangle]

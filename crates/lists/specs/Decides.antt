@@ -3,6 +3,7 @@ use mathlib.Core.Path.{_≡_}
 use mathlib.Core.Logic.{_⊎_, inl, inr}
 use mathlib.Core.Bool.{Bool, true, false}
 use Prim.Native.Nat.{ℕ}
+use native.Mathlib.Decide.{ℕ-discrete}
 use native.Mathlib.Omega.{arith}
 
 -- r is true where P holds, and false where it does not
@@ -25,3 +26,11 @@ module _ {r : Bool} (P : Type 0) where
   pub decides-same : (Q : Type 0) → (P → Q) → (Q → P) → Decides r P → Decides r Q
   decides-same Q f g (inl d) = inl (d .0, f (d .1))
   decides-same Q f g (inr d) = inr (d .0, λ q. d .1 (g q))
+
+-- numbers that are not different are equal
+pub equal-stable : (x y : ℕ) → ((x ≡ y → ⊥) → ⊥) → x ≡ y
+equal-stable x y f = by (ℕ-discrete x y)
+  where
+    by : Dec (x ≡ y) → x ≡ y
+    by (yes e) = e
+    by (no n) = absurd (f n)

@@ -1,18 +1,17 @@
 -- The checker's answer: there is one, and it hangs on the symbols that the coin reads alone. Assumes nothing.
-use mathlib.Core.Path.{_≡_, refl, sym, ap, _∙_, subst, transport}
-use mathlib.Core.Logic.{_⊎_, inl, inr}
-use mathlib.Core.List.{List, [], _∷_, _++_, map}
-use Prim.Native.Nat.{ℕ, _^_, _≤_, _<_}
+use mathlib.Core.Path.{_≡_, sym, ap, _∙_, transport}
+use mathlib.Core.List.{List, [], _∷_, _++_}
+use Prim.Native.Nat.{ℕ, _^_}
 use native.Mathlib.Omega.{arith}
 use lib.ListN.{length}
 use Rattle.lists.specs.All.{All}
-use Rattle.lists.specs.Answers.{Checks, Answers, Passes, Refuses, answers-one}
+use Rattle.lists.specs.Answers.{Checks, Passes, Refuses, answers-one}
 use Rattle.field.specs.Symbols.{symbols}
 use Rattle.space.specs.Setting.{settingChecks}
-use Rattle.proximity.specs.Dim.{dim, S, R}
+use Rattle.proximity.specs.Dim.{dim, S}
 use Rattle.proximity.specs.Reads.{same-reads}
-use Rattle.proximity.specs.Verifier.{Accepts, positions, readAt}
-use Rattle.verifier.specs.Checker.{symbolsAt, readsOf, deliveryChecks, readChecks, checkerChecks, Told}
+use Rattle.proximity.specs.Verifier.{Accepts, positions}
+use Rattle.verifier.specs.Checker.{symbolsAt, deliveryChecks, checkerChecks, Told}
 use Rattle.verifier.specs.declared.Verdict.{Verdict}
 use Rattle.verifier.specs.declared.Verdict.the-variants.{Accept, Reject, Refused}
 

@@ -17,7 +17,7 @@ use Rattle.proximity.specs.Verdict.{accepted-sym}
 use Rattle.verifier.specs.Checker.{symbolsAt, readsOf, Told}
 use Rattle.verifier.specs.Verdicts.{told-coin, delivery-passes}
 use Rattle.verifier.specs.declared.Verdict.{Verdict}
-use Rattle.verifier.specs.declared.Verdict.the-variants.{Accept, Reject, Refused}
+use Rattle.verifier.specs.declared.Verdict.the-variants.{Accept}
 use Rattle.terms.specs.Answer.{told-one, same-answer}
 
 -- ---- the checker

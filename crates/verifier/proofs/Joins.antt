@@ -1,10 +1,10 @@
 -- A plain word and a row as words in two parts. Assumes nothing.
-use mathlib.Core.Path.{_≡_, refl, sym, ap, ap₂, _∙_, subst}
+use mathlib.Core.Path.{_≡_, sym, ap, ap₂, _∙_}
 use mathlib.Core.List.{List, _++_}
-use Prim.Native.Nat.{ℕ, _+_, _-_, _*_, _/_, _^_, _≤_, _<_, min}
+use Prim.Native.Nat.{ℕ, _+_, _-_, _*_, _/_, _^_, _≤_, _<_}
 use native.Mathlib.Nat.{zero-mul}
 use native.Mathlib.Omega.{arith}
-use lib.ListN.{length, take, drop, length-take, length-drop, take-append-drop}
+use lib.ListN.{length, take, drop, length-drop, take-append-drop}
 use lib.Seq.{length-take-le}
 use Rattle.lists.specs.Tables.{part, insert}
 use Rattle.proximity.specs.Dim.{half, rowDim, colDim, S}
@@ -12,8 +12,7 @@ use Rattle.proximity.specs.Layout.{length-block, length-seven}
 use Rattle.proximity.specs.Proof.{slot, row}
 use Rattle.proximity.specs.Subspaces.{pow-eight}
 use Rattle.proximity.specs.Tree.{S-node}
-use Rattle.verifier.specs.Parts.{InParts, Lent, joined}
-use Rattle.verifier.proofs.Laws.{length-joined}
+use Rattle.verifier.specs.Parts.{Lent, joined}
 
 -- 2^k as eight eighths
 pub eighths : (k : ℕ) → 3 ≤ k → 2 ^ k ≡ 8 * 2 ^ (k - 3)

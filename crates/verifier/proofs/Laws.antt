@@ -4,12 +4,12 @@ use mathlib.Core.List.{List, _++_, append-assoc}
 use Prim.Native.Nat.{ℕ, _+_, _-_, _*_, _/_, _%_, _^_, _≤_, _<_}
 use native.Mathlib.Nat.{div-add-mod', one-mul, mod-eq-of-lt, mod-lt, mul-le-mul-right, mul-assoc, mul-comm, mul-sub, lt-of-mul-lt-mul-right}
 use native.Mathlib.Omega.{arith}
-use lib.ListN.{length, take, drop, length-append, length-take, length-drop, take-append-drop}
-use lib.Pow.{pow-pos, pow-mono}
+use lib.ListN.{length, take, drop, length-drop, take-append-drop}
+use lib.Pow.{pow-mono}
 use lib.Seq.{take-at, drop-at, take-append-le, drop-append-le, drop-drop, length-take-le, take-take}
 use Rattle.lists.specs.All.{Below, All-at, drop-take}
 use Rattle.lists.specs.Overwrite.{drop-append-at}
-use Rattle.lists.specs.Tables.{table-at, part, insert, part-fits, length-insert}
+use Rattle.lists.specs.Tables.{table-at, part, part-fits, length-insert}
 use Rattle.proximity.specs.Dim.{R}
 use Rattle.proximity.specs.Tree.{bits, tables-right}
 use Rattle.verifier.specs.Parts.{InParts, joined, noSymbols}

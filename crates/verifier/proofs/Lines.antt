@@ -1,29 +1,26 @@
 -- What `check_parts` hands to the check of a line, and what it makes of the answer. Assumes nothing.
-use mathlib.Core.Path.{_≡_, refl, sym, ap, ap₂, _∙_, subst}
+use mathlib.Core.Path.{_≡_, sym, ap, _∙_, subst}
 use mathlib.Core.List.{List}
-use Prim.Native.Nat.{ℕ, _+_, _-_, _*_, _^_, _≤_, _<_}
+use Prim.Native.Nat.{ℕ, _*_, _^_, _≤_, _<_}
 use native.Mathlib.Omega.{arith}
-use lib.ListN.{length, take}
-use Rattle.lists.specs.Tables.{part, length-tab}
+use lib.ListN.{length}
 use Rattle.field.specs.Laws.{Ops}
 use Rattle.field.specs.Symbols.{symbols, symbols-field}
 use Rattle.field.specs.declared.Field.{Field}
 use Rattle.poly.specs.Codeword.{Basis}
 use Rattle.space.specs.Images.{Images}
 use Rattle.proximity.specs.ByLine.{InRange, lineDim, lineBasis, lineWord, lineProof}
-use Rattle.proximity.specs.Dim.{half, rowDim, colDim, S}
+use Rattle.proximity.specs.Dim.{S}
 use Rattle.proximity.specs.LineImages.{LineTable}
-use Rattle.proximity.specs.LineLaws.{line-in-range, line-falls, line-at-least, line-basis, length-line-proof, length-line-word}
-use Rattle.proximity.specs.Proof.{slot, row, column}
+use Rattle.proximity.specs.LineLaws.{line-in-range, line-falls, line-at-least, line-basis, length-line-proof}
 use Rattle.proximity.specs.Verifier.{lineOf, bitsLeft}
 use Rattle.proximity.specs.declared.Line.{Line}
-use Rattle.proximity.specs.declared.Line.the-variants.{Row, Column}
 use Rattle.verifier.specs.Checker.{OnCoin}
 use Rattle.verifier.specs.OnCoin.{on-line}
-use Rattle.verifier.specs.Parts.{InParts, InSpace, Lent, joined}
+use Rattle.verifier.specs.Parts.{InSpace, Lent, joined}
 use Rattle.verifier.specs.declared.Verdict.{Verdict}
 use Rattle.verifier.proofs.Laws.{length-joined}
-use Rattle.verifier.proofs.Joins.{eighths, plain-lent, plain-joined, row-lent, row-joined}
+use Rattle.verifier.proofs.Joins.{eighths}
 
 -- the answer on a word, whatever basis the table is of
 abbrev pub Claim : Field → ℕ → List ℕ → List ℕ → List ℕ → ℕ → Verdict → Type 0

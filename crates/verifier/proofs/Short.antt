@@ -1,23 +1,16 @@
 -- A short word in lanes: its symbols, and the three answers. Assumes nothing.
-use mathlib.Core.Path.{_≡_, refl, sym, ap, _∙_, subst}
-use mathlib.Core.Logic.{_⊎_, inl, inr}
-use mathlib.Core.List.{List, [], _∷_}
-use Prim.Native.Nat.{ℕ, _+_, _-_, _*_, _/_, _%_, _^_, _≤_, _<_}
+use mathlib.Core.Path.{_≡_, sym, ap, _∙_, subst}
+use mathlib.Core.List.{List}
+use Prim.Native.Nat.{ℕ, _+_, _*_, _<_}
 use native.Mathlib.Decide.{decLt}
-use native.Mathlib.Nat.{mul-comm, div-lt-iff-lt-mul}
 use native.Mathlib.Omega.{arith}
-use lib.ListN.{length, getD, take}
-use lib.Pow.{pow-pos}
-use lib.Seq.{length-take-le}
-use Rattle.lists.specs.All.{Below, All-at, All-of, All-take, zeros-at}
-use Rattle.lists.specs.Lanes.{lane, getD-lane}
-use Rattle.lists.specs.Tables.{part, getD-part}
-use Rattle.field.specs.Binary.{degree}
+use lib.ListN.{length, getD}
+use Rattle.lists.specs.All.{Below, All-at, All-of, zeros-at}
+use Rattle.lists.specs.Lanes.{getD-lane}
+use Rattle.lists.specs.Tables.{getD-part}
 use Rattle.proximity.specs.Layout.{by-blocks}
 use Rattle.transform.specs.Slices.{Transposed}
 use Rattle.verifier.specs.Parts.{noSymbols}
-use Rattle.verifier.proofs.Laws.{length-no-symbols}
-use Rattle.verifier.proofs.Joins.{eighths}
 
 -- a word whose eight blocks are the lanes of `read`, with zeros after them
 module _ (size b : ℕ) (pos : 0 < size) (bp : 0 < b) (w read : List ℕ) (lw : length w ≡ 8 * size) (t : Transposed 8 size w noSymbols read) where

@@ -1,16 +1,13 @@
 -- The answer on a word, from that on the line that the coin takes, and at last on a short word. Assumes nothing.
-use mathlib.Core.Path.{_≡_, refl, sym, ap, ap₂, _∙_, subst, transport}
-use mathlib.Core.Logic.{_⊎_, inl, inr}
-use mathlib.Core.Bool.{Bool, true, false}
+use mathlib.Core.Path.{_≡_, sym, ap, _∙_, subst, transport}
 use mathlib.Core.List.{List, [], _∷_, map}
-use Prim.Native.Nat.{ℕ, _*_, _^_, _<_, _≤_}
+use Prim.Native.Nat.{ℕ, _*_, _^_, _≤_}
 use native.Mathlib.Omega.{arith}
-use lib.ListN.{length, getD, length-map}
+use lib.ListN.{length, length-map}
 use Rattle.lists.specs.All.{All}
-use Rattle.lists.specs.Answers.{Answers, Passes, Refuses, Checks}
-use Rattle.lists.specs.Decides.{Decides}
-use Rattle.lists.specs.Members.{Among, map-through, map-tab}
-use Rattle.lists.specs.Tables.{tab, tab-of, length-tab}
+use Rattle.lists.specs.Answers.{Passes, Refuses}
+use Rattle.lists.specs.Members.{map-through, map-tab}
+use Rattle.lists.specs.Tables.{tab-of, length-tab}
 use Rattle.field.specs.Laws.{Ops}
 use Rattle.poly.specs.Codeword.{Codeword}
 use Rattle.proximity.specs.ByLine.{InRange, lineDim, lineBasis, lineWord, lineProof, linePlace}
@@ -24,7 +21,7 @@ use Rattle.proximity.specs.declared.Line.{Line}
 use Rattle.proximity.specs.declared.Line.the-variants.{Row, Column}
 use Rattle.proximity.specs.declared.Place.{Place}
 use Rattle.proximity.specs.declared.Place.the-variants.{InWord}
-use Rattle.verifier.specs.Checker.{symbolsAt, readsOf, readChecks, Answered, OnCoin}
+use Rattle.verifier.specs.Checker.{symbolsAt, readsOf, OnCoin}
 use Rattle.verifier.specs.declared.Verdict.{Verdict}
 use Rattle.verifier.specs.declared.Verdict.the-variants.{Accept, Reject, Refused}
 

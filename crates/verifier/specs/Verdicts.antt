@@ -2,11 +2,11 @@
 use mathlib.Core.Path.{_≡_, refl}
 use mathlib.Core.Logic.{_⊎_, inl, inr}
 use mathlib.Core.List.{List, _++_}
-use Prim.Native.Nat.{ℕ, _^_, _≤_, _<_}
-use native.Mathlib.Decide.{ℕ-discrete}
+use Prim.Native.Nat.{ℕ, _^_, _<_}
 use native.Mathlib.Omega.{arith}
 use lib.ListN.{length}
-use Rattle.lists.specs.Answers.{Checks, Answers, Passes, Numbered, answers-after, refused-first, passes-each, numbered-append}
+use Rattle.lists.specs.Answers.{Checks, Answers, Passes, Numbered, answers-after, refused-first, numbered-append}
+use Rattle.lists.specs.Decides.{equal-stable}
 use Rattle.field.specs.Symbols.{symbols}
 use Rattle.space.specs.Setting.{settingChecks}
 use Rattle.space.specs.Sound.{setting-numbered}
@@ -27,14 +27,7 @@ pub record Right (k w p coin : ℕ) : Type 0 where
 pub right-of : (k w p coin : ℕ) → Passes (deliveryChecks k w p coin) → Right k w p coin
 right-of k w p coin (inl a) = absurd (omega arith)
 right-of k w p coin (inr (a, inl b)) = absurd (omega arith)
-right-of k w p coin (inr (a, inr b)) = record { word = same w (2 ^ k) (λ f. a (inl f)); proof = same p (S k) (λ f. a (inr f)); coin-fits = omega (arith, b .0) }
-  where
-    same : (x y : ℕ) → ((x ≡ y → ⊥) → ⊥) → x ≡ y
-    same x y f = by (ℕ-discrete x y)
-      where
-        by : Dec (x ≡ y) → x ≡ y
-        by (yes e) = e
-        by (no n) = absurd (f n)
+right-of k w p coin (inr (a, inr b)) = record { word = equal-stable w (2 ^ k) (λ f. a (inl f)); proof = equal-stable p (S k) (λ f. a (inr f)); coin-fits = omega (arith, b .0) }
 
 pub delivery-passes : (k w p coin : ℕ) → w ≡ 2 ^ k → p ≡ S k → coin < 2 ^ R k → Passes (deliveryChecks k w p coin)
 delivery-passes k w p coin ew ep h = inr (lengths, inr ((λ l. omega arith), refl))

@@ -1,7 +1,7 @@
 -- `verifier::check` meets its contract. Assumes nothing.
-use mathlib.Core.Path.{_≡_, refl, sym, subst}
+use mathlib.Core.Path.{_≡_, sym, subst}
 use mathlib.Core.List.{List}
-use Prim.Native.Nat.{ℕ, _<_}
+use Prim.Native.Nat.{ℕ}
 use native.Mathlib.Omega.{arith}
 use lib.ListN.{length}
 use Rattle.lists.specs.Answers.{Answers, Passes}
@@ -12,7 +12,7 @@ use Rattle.space.specs.Images.{Images}
 use Rattle.space.specs.Ready.{Ready, ready, settled-answer}
 use Rattle.space.specs.Setting.{settingChecks}
 use Rattle.space.specs.declared.Setting.{Setting}
-use Rattle.verifier.specs.Checker.{deliveryChecks, OnCoin, Told}
+use Rattle.verifier.specs.Checker.{deliveryChecks, OnCoin}
 use Rattle.verifier.specs.Parts.{InSpace}
 use Rattle.verifier.specs.Verdicts.{Right, right-of, told-setting, told-delivery, told-coin}
 use borrow.Author.Needs.{needs}

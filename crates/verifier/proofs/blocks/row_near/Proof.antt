@@ -1,12 +1,11 @@
 -- `verifier::blocks::row_near` meets its contract. Assumes nothing.
 use mathlib.Core.Path.{_≡_, sym, ap, ap₂, _∙_, subst}
-use mathlib.Core.List.{List}
-use Prim.Native.Nat.{ℕ, _+_, _-_, _*_, _%_, _^_, _≤_, _<_}
+use Prim.Native.Nat.{ℕ, _+_, _-_, _*_, _%_, _^_, _≤_}
 use native.Mathlib.Omega.{arith}
 use lib.ListN.{take, drop}
 use lib.Pow.{pow-pos, pow-add, pow-mono}
 use Rattle.lists.specs.Tables.{part-fits}
-use Rattle.proximity.specs.Dim.{half, colDim}
+use Rattle.proximity.specs.Dim.{half}
 use Rattle.proximity.specs.Subspaces.{pow-rows, pow-eight}
 use Rattle.verifier.specs.Parts.{joined}
 use Rattle.verifier.proofs.Laws.{aligned}

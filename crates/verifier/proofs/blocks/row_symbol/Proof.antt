@@ -4,13 +4,11 @@ use mathlib.Core.List.{List}
 use Prim.Native.Nat.{ℕ, _+_, _-_, _*_, _^_, _≤_, _<_}
 use native.Mathlib.Omega.{arith}
 use lib.ListN.{length, getD}
-use Rattle.proximity.specs.Dim.{half, colDim, S}
 use Rattle.proximity.specs.Proof.{row}
 use Rattle.proximity.specs.Reads.{Inside, cell-inside, read-cell}
 use Rattle.proximity.specs.Subspaces.{pow-eight}
 use Rattle.proximity.specs.Tree.{S-node}
-use Rattle.proximity.specs.Verifier.{cell, readAt}
-use Rattle.proximity.specs.declared.Place.{Place}
+use Rattle.proximity.specs.Verifier.{readAt}
 use Rattle.verifier.specs.Parts.{joined}
 use Rattle.verifier.proofs.Laws.{length-joined}
 use borrow.Author.Needs.{needs}

@@ -1,14 +1,13 @@
 -- `verifier::gather::column` meets its contract. The loop's invariant: the symbols of the first r rows are gathered. Assumes nothing.
-use mathlib.Core.Path.{_≡_, refl, sym, ap, _∙_, subst}
-use mathlib.Core.List.{List}
-use Prim.Native.Nat.{ℕ, _+_, _-_, _*_, _^_, _≤_, _<_}
+use mathlib.Core.Path.{_≡_, sym, _∙_, subst}
+use Prim.Native.Nat.{ℕ, _-_, _^_, _≤_, _<_}
 use native.Mathlib.Omega.{arith}
-use lib.ListN.{length, getD, take}
+use lib.ListN.{getD}
 use lib.Pow.{pow-mono}
 use borrow.Author.Needs.{needs}
 use Rattle.lists.specs.Filled.{Filled, filled-none, filled-front, filled-take}
-use Rattle.proximity.specs.Dim.{half, rowDim, colDim}
-use Rattle.proximity.specs.Proof.{row, column}
+use Rattle.proximity.specs.Dim.{half, colDim}
+use Rattle.proximity.specs.Proof.{row}
 use Rattle.proximity.specs.Subspaces.{pow-four, pow-eight}
 use Rattle.verifier.specs.Parts.{joined, noSymbols}
 use Rattle.verifier.proofs.Laws.{length-no-symbols}

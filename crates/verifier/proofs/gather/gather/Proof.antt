@@ -1,11 +1,10 @@
 -- `verifier::gather::gather` meets its contract. The loop's invariant: the first b blocks are written. Assumes nothing.
-use mathlib.Core.Path.{_≡_, refl, sym, ap, _∙_, subst}
+use mathlib.Core.Path.{_≡_, sym, ap, _∙_, subst}
 use mathlib.Core.List.{List}
 use Prim.Native.Nat.{ℕ, _+_, _-_, _*_, _≤_, _<_}
 use native.Mathlib.Omega.{arith}
 use lib.ListN.{length, getD, take, drop}
 use borrow.Author.Needs.{needs}
-use Rattle.lists.specs.Tables.{part}
 use Rattle.lists.specs.Lanes.{Strided}
 use Rattle.transform.proofs.Written.{Written, written-none, written-next, written-all, length-list, cut}
 use Rattle.verifier.specs.Parts.{joined, noSymbols}

@@ -1,17 +1,17 @@
 -- `verifier::parts::check_parts` meets its contract. The measure is the dimension. Assumes nothing.
-use mathlib.Core.Path.{_≡_, refl, sym, ap, _∙_, subst}
+use mathlib.Core.Path.{_≡_, sym, ap, _∙_, subst}
 use mathlib.Core.List.{List}
-use Prim.Native.Nat.{_-_, _*_, _^_, _≤_}
+use Prim.Native.Nat.{_-_, _^_, _≤_}
 use native.Mathlib.Omega.{arith}
-use lib.ListN.{length, take, drop}
+use lib.ListN.{length, take}
 use lib.Pow.{pow-mono}
 use lib.Seq.{length-take-le}
 use borrow.Author.Needs.{needs}
 use Rattle.lists.specs.Tables.{length-tab}
 use Rattle.field.specs.Symbols.{symbols}
 use Rattle.transform.specs.Slices.{Transposed}
-use Rattle.proximity.specs.ByLine.{InRange, lineDim, lineWord, lineProof}
-use Rattle.proximity.specs.Dim.{half, rowDim, colDim, S}
+use Rattle.proximity.specs.ByLine.{InRange, lineDim, lineWord}
+use Rattle.proximity.specs.Dim.{rowDim, colDim, S}
 use Rattle.proximity.specs.LineLaws.{line-in-range}
 use Rattle.proximity.specs.Proof.{slot}
 use Rattle.proximity.specs.declared.Line.{Line}

@@ -1,10 +1,9 @@
 -- `verifier::parts::check_word` meets its contract. Assumes nothing.
-use mathlib.Core.Path.{_≡_, subst}
+use mathlib.Core.Path.{subst}
 use mathlib.Core.List.{List}
 use Prim.Native.Nat.{ℕ}
 use Rattle.field.specs.Symbols.{symbols}
 use Rattle.verifier.specs.Checker.{OnCoin}
-use Rattle.verifier.specs.Parts.{joined}
 use Rattle.verifier.proofs.Joins.{plain-lent, plain-joined}
 use borrow.Author.Needs.{needs}
 use Rattle.verifier.proofs.parts.check_word.Statement.{statement}
