@@ -95,7 +95,7 @@ array-read-mul c = omega arith
 mul-requires-2 : tie.Need-mul-requires-2 Inv-loop μ-loop
 mul-requires-2 c κs =
     let here = c .before .before in
-    (start here .pre .0, step-symbol here ((here .loop .p + 1) / 12), cell-symbol here (here .loop .p + 1))
+    (start here .pre .0, step-symbol here _, cell-symbol here _)
 
 mul-requires-3 : tie.Need-mul-requires-3 Inv-loop μ-loop
 mul-requires-3 c κs =
