@@ -2,6 +2,7 @@
 pub mod blocks;
 pub mod gather;
 pub mod parts;
+
 use field::modulus;
 use proximity::tables;
 use space::Space;
@@ -35,4 +36,3 @@ fn delivery_refusal(k: usize, word: usize, proof: usize, coin: u64) -> u8
     }
     0
 }
-

@@ -35,4 +35,3 @@ fn other_blocks(word: &[u16]) -> &[u16]
     let n = word.len() / 8;
     &word[n..]
 }
-
