@@ -1,0 +1,2 @@
+-- The prover: the rows of a word, and the proof that is written.
+pub mod Rows

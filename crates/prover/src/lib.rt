@@ -1,0 +1,2 @@
+// The prover: the proof of a codeword.
+pub mod rows;
