@@ -17,8 +17,9 @@ use Rattle.lists.specs.Pick.{pick-true, pick-false}
 use Rattle.lists.specs.Tables.{tab, length-tab, getD-tab, part}
 use Rattle.space.specs.Setting.{maxDim}
 use Rattle.proximity.specs.Dim.{half, colDim}
-use Rattle.proximity.specs.Proof.{slot}
+use Rattle.proximity.specs.Proof.{slot, block}
 use Rattle.proximity.specs.Subspaces.{pow-rows}
+use Rattle.proximity.specs.Blocks.{block-before, block-after}
 use Rattle.prover.specs.Rows.{number, rowLane, PassStored}
 
 -- ---- numbers
@@ -65,6 +66,11 @@ pub number-fits : (k r j : ℕ) → r < 2 ^ colDim k → j < 8 → (j ≡ slot r
 number-fits k r j hr hj d =
     let below : number r j + 1 ≤ 7 * 2 ^ colDim k = omega (arith, number-lt r j hj d) in
     omega (arith, pow-rows k, mul-le-mul-right {m = number r j + 1} {n = 7 * 2 ^ colDim k} (2 ^ half k) below)
+
+-- a block that is stored
+pub stored-block : (k : ℕ) (w π : List ℕ) (r j : ℕ) → (j ≡ slot r → ⊥) → block k w π r j ≡ part (2 ^ half k) (number r j) π
+stored-block k w π r j d =
+    number-cases (λ (n : ℕ). block k w π r j ≡ part (2 ^ half k) n π) r j d (λ h. block-before k w π r j h) (λ h. block-after k w π r j h)
 
 -- ---- a pass
 

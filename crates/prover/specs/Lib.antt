@@ -1,2 +1,3 @@
 -- The prover: the rows of a word, and the proof that is written.
 pub mod Rows
+pub mod Prover

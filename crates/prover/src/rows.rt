@@ -86,7 +86,7 @@ fn evaluate_rows(
 }
 
 // The number of block j of row r among all stored blocks.
-fn number(r: usize, j: usize) -> usize
+pub fn number(r: usize, j: usize) -> usize
     requires { ⌜ (r < 64) × (j < 8) × (j ≡ slot r → ⊥) ⌝ }
     ensures { λ n. ⌜ n ≡ number r j ⌝ }
 {
