@@ -65,6 +65,10 @@ module _ (P : ℕ → Type 0) where
   All-zipWith f k (x ∷ xs) [] hx hy = tt
   All-zipWith f k (x ∷ xs) (y ∷ ys) hx hy = (k x y (hx .0) (hy .0), All-zipWith f k xs ys (hx .1) (hy .1))
 
+  pub All-weaken : (Q : ℕ → Type 0) (xs : List ℕ) → ((x : ℕ) → P x → Q x) → All P xs → All Q xs
+  All-weaken Q [] k h = tt
+  All-weaken Q (x ∷ xs) k h = (k x (h .0), All-weaken Q xs k (h .1))
+
   pub All-map : (Q : ℕ → Type 0) (f : ℕ → ℕ) (xs : List ℕ) → ((x : ℕ) → P x → Q (f x)) → All P xs → All Q (map f xs)
   All-map Q f [] k h = tt
   All-map Q f (x ∷ xs) k h = (k x (h .0), All-map Q f xs k (h .1))
@@ -93,6 +97,9 @@ below-stable n (x ∷ xs) f = (by (decLt x n), below-stable n xs (λ g. f (λ h.
     by : Dec (x < n) → x < n
     by (yes h) = h
     by (no k) = absurd (f (λ h. k (h .0)))
+
+pub zeros-below : (n : ℕ) (xs : List ℕ) → 0 < n → All IsZero xs → Below n xs
+zeros-below n xs h z = All-weaken IsZero (λ x. x < n) xs (λ x e. subst (λ (y : ℕ). y < n) (sym e) h) z
 
 -- every entry of zeros, and past the end the default
 pub zeros-at : (n p : ℕ) → getD (replicate {A = ℕ} n 0) p 0 ≡ 0

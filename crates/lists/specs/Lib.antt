@@ -1,6 +1,7 @@
 -- Laws on lists that the crates above share, and the order in which a call makes its checks.
 pub mod All
 pub mod Answers
+pub mod Calls
 pub mod Decides
 pub mod Filled
 pub mod Lanes

@@ -1,12 +1,12 @@
--- A loop that writes a list of zeros from its front. Assumes nothing.
-use mathlib.Core.Path.{_≡_, refl, sym, ap, _∙_, subst}
+-- A list that is filled from its front, with zeros behind. Assumes nothing.
+use mathlib.Core.Path.{_≡_, sym, ap, _∙_, subst}
 use mathlib.Core.List.{List}
-use Prim.Native.Nat.{ℕ, zero, suc, _+_, _≤_, _<_}
+use Prim.Native.Nat.{ℕ, _+_, _≤_, _<_}
 use native.Mathlib.Decide.{decLt, ℕ-discrete}
 use native.Mathlib.Omega.{arith}
 use lib.ListN.{length, getD, set, replicate, length-set, length-replicate}
 use lib.Seq.{ext-getD, getD-set-same, getD-set-other}
-use Rattle.lists.specs.All.{Below, All-of, zeros-at}
+use Rattle.lists.specs.All.{All, All-of, zeros-at}
 use Rattle.lists.specs.Tables.{tab, length-tab, getD-tab}
 
 -- a list of n entries: f below i, and 0 from i on
@@ -40,10 +40,18 @@ upto-all {n} {i} {f} {xs} z u =
     at j l (yes k) = u .done j k l
     at j l (no k) = u .left j (omega arith) ∙ sym (z j (omega arith) l)
 
--- an entry that is f j or 0 is below a bound of f
-pub upto-below : {n i b : ℕ} {f : ℕ → ℕ} {xs : List ℕ} → 0 < b → ((j : ℕ) → f j < b) → Upto n i f xs → Below b xs
-upto-below {n} {i} {b} {f} {xs} p s u = All-of (λ (x : ℕ). x < b) xs 0 (λ j h. at j (omega (arith, u .count)) (decLt j i))
+-- what holds of 0 and of each f j
+pub upto-each : (P : ℕ → Type 0) {n i : ℕ} {f : ℕ → ℕ} {xs : List ℕ} → P 0 → ((j : ℕ) → j < i → P (f j)) → Upto n i f xs → All P xs
+upto-each P {n} {i} {f} {xs} p s u = All-of P xs 0 (λ j h. at j (omega (arith, u .count)) (decLt j i))
   where
-    at : (j : ℕ) → j < n → Dec (j < i) → getD xs j 0 < b
-    at j l (yes k) = subst (λ (x : ℕ). x < b) (sym (u .done j k l)) (s j)
-    at j l (no k) = subst (λ (x : ℕ). x < b) (sym (u .left j (omega arith))) p
+    at : (j : ℕ) → j < n → Dec (j < i) → P (getD xs j 0)
+    at j l (yes k) = subst P (sym (u .done j k l)) (s j k)
+    at j l (no k) = subst P (sym (u .left j (omega arith))) p
+
+-- places where f is 0 are filled as they are
+pub upto-zeros : {n i k : ℕ} {f : ℕ → ℕ} {xs : List ℕ} → i ≤ k → ((j : ℕ) → i ≤ j → j < k → f j ≡ 0) → Upto n i f xs → Upto n k f xs
+upto-zeros {n} {i} {k} {f} {xs} h z u = record { count = u .count; done = λ j l g. at j l g (decLt j i); left = λ j l. u .left j (omega arith) }
+  where
+    at : (j : ℕ) → j < k → j < n → Dec (j < i) → getD xs j 0 ≡ f j
+    at j l g (yes d) = u .done j d g
+    at j l g (no d) = u .left j (omega arith) ∙ sym (z j (omega arith) l)

@@ -1,5 +1,5 @@
 -- The tables of the first i basis elements, as the loop of `tabulate` makes them. Assumes nothing.
-use mathlib.Core.Path.{_≡_, refl, sym, ap, ap₂, _∙_, subst}
+use mathlib.Core.Path.{_≡_, sym, ap, ap₂, _∙_, subst}
 use mathlib.Core.Logic.{_≢_, _⊎_, inl, inr}
 use mathlib.Core.Bool.{true}
 use mathlib.Core.List.{List}
@@ -11,12 +11,12 @@ use lib.Pow.{pow-pos, pow-lt}
 use lib.Seq.{getD-set-same, getD-set-other}
 use Rattle.lists.specs.All.{Below}
 use Rattle.lists.specs.Filled.{Filled}
-use Rattle.lists.specs.Upto.{Upto, upto-none, upto-next, upto-all, upto-below}
+use Rattle.lists.specs.Upto.{Upto, upto-none, upto-next, upto-all, upto-each}
 use Rattle.field.specs.Binary.{_⊕_, degree, product, inverse, Irreducible}
 use Rattle.field.specs.Laws.{Ops, IsField, 0-⊕}
 use Rattle.field.specs.Symbols.{symbols, symbols-field, inverse-zero}
 use Rattle.poly.specs.Span.{elem, elem-zero, vanish-nil, vanish-zero}
-use Rattle.poly.specs.Novel.{W, step, image, W-suc, W-sym, step-sym, elem-high, image-elem, image-zero, image-next, independent-iff}
+use Rattle.poly.specs.Novel.{W, step, image, W-suc, step-sym, elem-high, image-elem, image-zero, image-next, independent-iff}
 use Rattle.space.specs.Values.{valueAt, imageAt}
 use Rattle.space.specs.Setting.{imagesOf, stepsOf, inversesOf, noTables, tablesOf, Tabled}
 use Rattle.space.specs.declared.Tables.{Tables}
@@ -53,10 +53,10 @@ module _ (m : ℕ) (irr : Irreducible m) (bs : List ℕ) (few : length bs ≤ 12
 
   module _ {i : ℕ} {images steps inverses : List ℕ} (s : SoFar i images steps inverses) where
     pub steps-below : Below (2 ^ degree m) steps
-    steps-below = upto-below (pow-pos (degree m)) (step-sym F bs sb) (s .steps)
+    steps-below = upto-each (λ (x : ℕ). x < 2 ^ degree m) (pow-pos (degree m)) (λ j h. step-sym F bs sb j) (s .steps)
 
     pub inverses-below : Below (2 ^ degree m) inverses
-    inverses-below = upto-below (pow-pos (degree m)) inverses-symbol (s .inverses)
+    inverses-below = upto-each (λ (x : ℕ). x < 2 ^ degree m) (pow-pos (degree m)) (λ j h. inverses-symbol j) (s .inverses)
 
     -- the values of the subspace polynomials
     value-right : (j : ℕ) → j ≤ i → i ≤ length bs → (x : ℕ) → valueAt m steps j x ≡ W K bs j x

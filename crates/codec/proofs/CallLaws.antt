@@ -1,0 +1,123 @@
+-- The checks of the two calls, and what each exit leaves. Assumes nothing.
+use mathlib.Core.Path.{_≡_, refl, sym, ap, _∙_, subst}
+use mathlib.Core.Logic.{inl, inr, _≢_}
+use mathlib.Core.List.{List, _++_}
+use Prim.Native.Nat.{ℕ, _*_, _/_, _-_, _^_, _≤_}
+use native.Mathlib.Omega.{arith}
+use lib.ListN.{length}
+use Rattle.lists.specs.All.{Below}
+use Rattle.lists.specs.Answers.{Checks, Answers, Passes, Numbered, answers-after, refused-first}
+use Rattle.lists.specs.Calls.{zeros, Accepted, RefusedWith, Within, refused-early, refused-late, accepted}
+use Rattle.field.specs.Binary.{degree}
+use Rattle.field.specs.Symbols.{symbols}
+use Rattle.poly.specs.Codeword.{wordOf, Codeword}
+use Rattle.space.specs.Ready.{Ready, ready, settled-answer}
+use Rattle.space.specs.Setting.{settingChecks, Settled}
+use Rattle.space.specs.Sound.{setting-numbered}
+use Rattle.space.specs.declared.Checked.{Checked}
+use Rattle.space.specs.declared.Setting.{Setting}
+use Rattle.transform.proofs.BlockLaws.{eight}
+use Rattle.codec.specs.Calls.{lengthChecks, Early, symbolChecks, wordChecks, CoefficientsOf}
+use Rattle.codec.specs.Checks.{earlyChecks, lengths-passed}
+use Rattle.codec.specs.Words.{Usable, Lengths, EncodedWith, DecodedWith}
+use Rattle.codec.proofs.WordLaws.{usable}
+
+-- an eighth of the word
+pub eighth-is : (k n : ℕ) → 3 ≤ k → n ≡ 2 ^ k → n / 8 ≡ 2 ^ (k - 3)
+eighth-is k n h e = omega (arith, eight k h)
+
+-- ---- checks 1 to 7
+
+module _ (m : ℕ) (bs : List ℕ) (a b s : ℕ) where
+  early-within : Within 7 (earlyChecks m bs a b s)
+  early-within = (omega arith, (omega arith, (omega arith, (omega arith, (omega arith, (omega arith, (omega arith, tt)))))))
+
+  module _ (c : Checked) (set : Settled m bs c) where
+    pub dimensions : c .refusal ≡ 0 → (3 ≤ length bs) × (length bs ≤ 12)
+    dimensions e = let r = ready m bs c set e in (r .sound .low, r .sound .high)
+
+    early-answer : (r : ℕ) → Early (c .refusal) (length bs) a b s r → Answers (earlyChecks m bs a b s) r
+    early-answer r (inl (z, p)) =
+        answers-after (settingChecks m bs) (lengthChecks (length bs) a b s) r (setting-numbered m bs) (subst (Answers (settingChecks m bs)) z (settled-answer m bs c set)) p
+    early-answer r (inr (l, e)) =
+        refused-first (settingChecks m bs) (lengthChecks (length bs) a b s) r (omega arith) (subst (Answers (settingChecks m bs)) (sym e) (settled-answer m bs c set))
+
+    -- a refusal by checks 1 to 7
+    pub early-refused : (ds : Checks) (r : ℕ) (old scratch : List ℕ) → Early (c .refusal) (length bs) a b s r → r ≢ 0 → RefusedWith ((earlyChecks m bs a b s) ++ ds) r old old scratch scratch
+    early-refused ds r old scratch e n = refused-early (earlyChecks m bs a b s) ds r old scratch early-within (omega (arith, n)) (early-answer r e)
+
+    -- past them
+    module _ (r : ℕ) (e : Early (c .refusal) (length bs) a b s r) (z : r ≡ 0) where
+      pub early-passes : Passes (earlyChecks m bs a b s)
+      early-passes = subst (Answers (earlyChecks m bs a b s)) z (early-answer r e)
+
+      first-zero : Early (c .refusal) (length bs) a b s r → c .refusal ≡ 0
+      first-zero (inl (y, p)) = y
+      first-zero (inr (l, y)) = absurd (omega arith)
+
+      pub early-ready : Ready m bs (c .setting)
+      early-ready = ready m bs c set (first-zero e)
+
+      pub early-lengths : (a ≡ 2 ^ (length bs - 3)) × (b ≡ 2 ^ length bs) × (4 * 2 ^ length bs ≤ s)
+      early-lengths = lengths-passed (length bs) a b s (passing e)
+        where
+          passing : Early (c .refusal) (length bs) a b s r → Passes (lengthChecks (length bs) a b s)
+          passing (inl (y, p)) = subst (Answers (lengthChecks (length bs) a b s)) z p
+          passing (inr (l, y)) = absurd (omega arith)
+
+-- the setting by its own modulus
+pub own-ready : {m : ℕ} {bs : List ℕ} {s : Setting} → Ready m bs s → Ready (s .field .modulus) bs s
+own-ready {m} {bs} {s} r = subst (λ (i : ℕ). Ready i bs s) (sym (r .modulus)) r
+
+pub ready-usable : {m : ℕ} {bs : List ℕ} {s : Setting} → Ready m bs s → Usable s
+ready-usable r = usable (own-ready r)
+
+pub ready-lengths : {m : ℕ} {bs : List ℕ} {s : Setting} (coefficients word scratch : List ℕ) → Ready m bs s
+    → (length coefficients ≡ 2 ^ (length bs - 3)) × (length word ≡ 2 ^ length bs) × (4 * 2 ^ length bs ≤ length scratch) → Lengths s coefficients word scratch
+ready-lengths {m} {bs} {s} coefficients word scratch r (e, w, l) =
+    record {
+      eighth = e ∙ ap (λ (i : ℕ). 2 ^ (i - 3)) (sym (r .dimension));
+      whole = w ∙ ap (λ (i : ℕ). 2 ^ i) (sym (r .dimension));
+      room = subst (λ (i : ℕ). 4 * 2 ^ i ≤ length scratch) (sym (r .dimension)) l;
+    }
+
+-- ---- past check 7
+
+module _ {m : ℕ} {bs : List ℕ} {s : Setting} (cs : Checks) (k : Numbered cs) (p : Passes cs) (r : Ready m bs s) (old new scratch left : List ℕ) (z : left ≡ zeros (length scratch)) where
+  abbrev WordOf : List ℕ → List ℕ → Type 0
+  WordOf coefficients w = w ≡ wordOf (symbols m) (length bs) bs coefficients
+
+  module _ (coefficients : List ℕ) where
+    pub encode-done : (n : ℕ) → EncodedWith s coefficients old new n → n ≡ 0 → Accepted (cs ++ symbolChecks m coefficients) (WordOf coefficients) new scratch left
+    encode-done n (inl (e, b, w)) h =
+        accepted cs (symbolChecks m coefficients) k p (WordOf coefficients) new scratch left
+        (inr ((λ f. f (subst (λ (i : ℕ). Below (2 ^ degree i) coefficients) (r .modulus) b)), refl))
+        (w bs (own-ready r) ∙ ap (λ (i : ℕ). wordOf (symbols i) (length bs) bs coefficients) (r .modulus)) z
+    encode-done n (inr (e, b, w)) h = absurd (omega arith)
+
+    pub encode-refused : (n : ℕ) → EncodedWith s coefficients old new n → n ≢ 0 → RefusedWith (cs ++ symbolChecks m coefficients) n old new scratch left
+    encode-refused n (inl (e, b, w)) h = absurd (h e)
+    encode-refused n (inr (e, b, w)) h =
+        refused-late cs (symbolChecks m coefficients) k p n old new scratch left (omega arith)
+        (inl (subst (λ (i : ℕ). Below (2 ^ degree i) coefficients → ⊥) (r .modulus) b, e)) w z
+
+  module _ (word : List ℕ) where
+    below-word : Below (2 ^ degree (s .field .modulus)) word → Below (2 ^ degree m) word
+    below-word b = subst (λ (i : ℕ). Below (2 ^ degree i) word) (r .modulus) b
+
+    pub decode-done : (n : ℕ) → DecodedWith s word old new n → n ≡ 0 → Accepted (cs ++ wordChecks m bs word) (CoefficientsOf m bs word) new scratch left
+    decode-done n (inl (e, b, w)) h =
+        let right : CoefficientsOf m bs word new = subst (λ (i : ℕ). CoefficientsOf i bs word new) (r .modulus) (w bs (own-ready r)) in
+        accepted cs (wordChecks m bs word) k p (CoefficientsOf m bs word) new scratch left
+        (inr ((λ f. f (below-word b)), inr ((λ f. f (new, right .count, right .elements, right .word-is)), refl))) right z
+    decode-done n (inr (inl (e, b, w))) h = absurd (omega arith)
+    decode-done n (inr (inr (e, b, f, w))) h = absurd (omega arith)
+
+    pub decode-refused : (n : ℕ) → DecodedWith s word old new n → n ≢ 0 → RefusedWith (cs ++ wordChecks m bs word) n old new scratch left
+    decode-refused n (inl (e, b, w)) h = absurd (h e)
+    decode-refused n (inr (inl (e, b, w))) h =
+        refused-late cs (wordChecks m bs word) k p n old new scratch left (omega arith)
+        (inl (subst (λ (i : ℕ). Below (2 ^ degree i) word → ⊥) (r .modulus) b, e)) w z
+    decode-refused n (inr (inr (e, b, f, w))) h =
+        refused-late cs (wordChecks m bs word) k p n old new scratch left (omega arith)
+        (inr ((λ g. g (below-word b)), inl (subst (λ (i : ℕ). Codeword (symbols i) (length bs) bs word → ⊥) (r .modulus) (f bs (own-ready r)), e))) w z

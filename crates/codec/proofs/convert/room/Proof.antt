@@ -1,0 +1,12 @@
+-- `codec::convert::room` meets its contract. Assumes nothing.
+use mathlib.Core.Path.{refl}
+use Rattle.codec.specs.Scales.{zeroRoom}
+use Rattle.codec.proofs.convert.room.Statement.{statement}
+use Rattle.codec.proofs.convert.room.Tie as tie
+
+returns : tie.Need-returns
+unfolding zeroRoom
+returns c = refl
+
+pub room-spec : {M : Type 1} → statement M
+room-spec = tie.close (tie.spec returns)

@@ -1,0 +1,130 @@
+-- `codec::decode` meets its contract: a case for each of its three ways out. Assumes nothing.
+use mathlib.Core.Path.{_≡_, ap, _∙_}
+use mathlib.Core.List.{List}
+use Prim.Native.Nat.{ℕ}
+use lib.ListN.{length}
+use borrow.Author.Needs.{needs}
+use Rattle.lists.specs.Answers.{Passes}
+use Rattle.lists.specs.Calls.{zeros}
+use Rattle.space.specs.Ready.{Ready}
+use Rattle.codec.specs.Calls.{wordChecks}
+use Rattle.codec.specs.Checks.{earlyChecks, early-numbered}
+use Rattle.codec.proofs.CallLaws.{early-passes, early-ready, early-lengths, early-refused, dimensions, ready-usable, ready-lengths, decode-done, decode-refused}
+use Rattle.codec.proofs.decode.Statement.{statement}
+use Rattle.codec.proofs.decode.Tie as tie
+
+-- ---- checks 1 to 7
+module _ (c : tie.After-early-refusal) where
+  abbrev start : tie.Start
+  start = c .before .before .before .before .before .before .before
+
+  abbrev m : ℕ
+  m = start .args .modulus
+
+  abbrev bs : List ℕ
+  bs = start .args .basis .now
+
+  abbrev coefficients : List ℕ
+  coefficients = start .args .coefficients .now
+
+  abbrev word : List ℕ
+  word = start .args .word .now
+
+  abbrev scratch : List ℕ
+  scratch = start .args .scratch .now
+
+-- ---- past check 7
+module _ (c : tie.Then1) where
+  abbrev at : tie.After-early-refusal
+  at = c .before
+
+  passing : Passes (earlyChecks (m at) (bs at) (length (coefficients at)) (length (word at)) (length (scratch at)))
+  passing = early-passes (m at) (bs at) (length (coefficients at)) (length (word at)) (length (scratch at)) (at .before .before .check .result) (at .before .before .check .ensures) (at .early-refusal .result) (at .early-refusal .ensures) (c .if1 .taken)
+
+  set : Ready (m at) (bs at) (at .before .before .check .result .setting)
+  set = early-ready (m at) (bs at) (length (coefficients at)) (length (word at)) (length (scratch at)) (at .before .before .check .result) (at .before .before .check .ensures) (at .early-refusal .result) (at .early-refusal .ensures) (c .if1 .taken)
+
+-- ---- once the scratch is cleared
+module _ (c : tie.After-clear) where
+  abbrev made : tie.After-decode-with
+  made = c .before .before .before .before .before .before
+
+  abbrev then : tie.Then1
+  then = made .before .before .before
+
+  cleared : c .clear .last .0 ≡ zeros (length (scratch (at then)))
+  cleared = c .clear .ensures ∙ ap zeros (made .decode-with .kept .1 .1 .1 .0)
+
+check-requires : tie.Need-check-requires
+check-requires c κs = search needs
+
+early-refusal-requires : tie.Need-early-refusal-requires
+early-refusal-requires c κs =
+    let start = c .before .before .before .before .before .before in
+    dimensions (start .args .modulus) (start .args .basis .now) 0 0 0 (c .before .check .result) (c .before .check .ensures)
+
+decode-with-requires : tie.Need-decode-with-requires
+decode-with-requires c κs =
+    let then = c .before .before in
+    let here = at then in (
+      ready-usable (set then),
+      ready-lengths (coefficients here) (word here) (scratch here) (set then)
+          (early-lengths (m here) (bs here) (length (coefficients here)) (length (word here)) (length (scratch here)) (here .before .before .check .result) (here .before .before .check .ensures) (here .early-refusal .result) (here .early-refusal .ensures) (then .if1 .taken)),
+    )
+
+clear-requires : tie.Need-clear-requires
+clear-requires c κs = search needs
+
+same-length : tie.Need-same-length
+same-length c = search needs
+
+same-length-2 : tie.Need-same-length-2
+same-length-2 c = search needs
+
+returns : tie.Need-returns
+returns c =
+    let here = c .before .before .before in
+    let then1 = then here in
+    let a = at then1 in
+    let o = made here in
+    decode-done (earlyChecks (m a) (bs a) (length (coefficients a)) (length (word a)) (length (scratch a)))
+    (early-numbered (m a) (bs a) (length (coefficients a)) (length (word a)) (length (scratch a))) (passing then1) (set then1)
+    (coefficients a) (o .decode-with .last .1 .1 .0) (scratch a) _ (cleared here) (word a) (o .decode-with .result) (o .decode-with .ensures) (c .if2 .taken)
+
+same-length-3 : tie.Need-same-length-3
+same-length-3 c = search needs
+
+same-length-4 : tie.Need-same-length-4
+same-length-4 c = search needs
+
+returns-2 : tie.Need-returns-2
+returns-2 c =
+    let here = c .before .before .before in
+    let then1 = then here in
+    let a = at then1 in
+    let o = made here in
+    decode-refused (earlyChecks (m a) (bs a) (length (coefficients a)) (length (word a)) (length (scratch a)))
+    (early-numbered (m a) (bs a) (length (coefficients a)) (length (word a)) (length (scratch a))) (passing then1) (set then1)
+    (coefficients a) (o .decode-with .last .1 .1 .0) (scratch a) _ (cleared here) (word a) (o .decode-with .result) (o .decode-with .ensures) (c .if2 .left)
+
+returns-3 : tie.Need-returns-3
+returns-3 c =
+    let a = c .before in
+    early-refused (m a) (bs a) (length (coefficients a)) (length (word a)) (length (scratch a)) (a .before .before .check .result) (a .before .before .check .ensures)
+    (wordChecks (m a) (bs a) (word a)) (a .early-refusal .result) (coefficients a) (scratch a) (a .early-refusal .ensures) (c .if1 .left)
+
+pub decode-spec : {M : Type 1} → statement M
+decode-spec =
+    tie.close
+    (tie.spec
+    check-requires
+    early-refusal-requires
+    decode-with-requires
+    clear-requires
+    same-length
+    same-length-2
+    returns
+    same-length-3
+    same-length-4
+    returns-2
+    returns-3)

@@ -1,0 +1,60 @@
+-- The calls of the encoder and the decoder: the order of their checks, and what they leave.
+use mathlib.Core.Path.{_≡_}
+use mathlib.Core.Logic.{_⊎_, _≢_}
+use mathlib.Core.List.{List, [], _∷_, _++_}
+use Prim.Native.Nat.{ℕ, _*_, _-_, _^_, _<_}
+use lib.ListN.{length}
+use Rattle.lists.specs.All.{All, Below}
+use Rattle.lists.specs.Answers.{Checks, Answers}
+use Rattle.lists.specs.Calls.{Accepted, RefusedWith}
+use Rattle.field.specs.Binary.{degree}
+use Rattle.field.specs.Symbols.{symbols}
+use Rattle.poly.specs.Codeword.{wordOf, Codeword}
+use Rattle.space.specs.Setting.{settingChecks}
+use Rattle.codec.specs.declared.Outcome.{Outcome}
+use Rattle.codec.specs.declared.Outcome.the-variants.{Done, Refused}
+
+-- checks 6 and 7 at dimension k, of the lengths of the coefficients, the word and the scratch
+abbrev pub lengthChecks : ℕ → ℕ → ℕ → ℕ → Checks
+lengthChecks k coefficients word scratch = (6, (coefficients ≢ 2 ^ (k - 3)) ⊎ (word ≢ 2 ^ k)) ∷ (7, scratch < 4 * 2 ^ k) ∷ []
+
+-- the answer of checks 1 to 7, from that of checks 1 to 5
+abbrev pub Early : ℕ → ℕ → ℕ → ℕ → ℕ → ℕ → Type 0
+Early refusal k coefficients word scratch r = ((refusal ≡ 0) × Answers (lengthChecks k coefficients word scratch) r) ⊎ ((0 < refusal) × (r ≡ refusal))
+
+-- check 9, of symbols that are read
+abbrev pub symbolChecks : ℕ → List ℕ → Checks
+symbolChecks m xs = (9, (Below (2 ^ degree m) xs → ⊥)) ∷ []
+
+-- checks 9 and 10
+abbrev pub wordChecks : ℕ → List ℕ → List ℕ → Checks
+wordChecks m bs word = (9, (Below (2 ^ degree m) word → ⊥)) ∷ (10, (Codeword (symbols m) (length bs) bs word → ⊥)) ∷ []
+
+-- the checks of the encoder
+abbrev pub encodeChecks : ℕ → List ℕ → List ℕ → ℕ → ℕ → Checks
+encodeChecks m bs coefficients word scratch = settingChecks m bs ++ lengthChecks (length bs) (length coefficients) word scratch ++ symbolChecks m coefficients
+
+-- the checks of the decoder
+abbrev pub decodeChecks : ℕ → List ℕ → List ℕ → ℕ → ℕ → Checks
+decodeChecks m bs word coefficients scratch = settingChecks m bs ++ lengthChecks (length bs) coefficients (length word) scratch ++ wordChecks m bs word
+
+-- what an outcome says of the output and of the scratch
+abbrev pub Told : Checks → (List ℕ → Type 0) → List ℕ → List ℕ → List ℕ → List ℕ → Outcome → Type 0
+Told cs Right old new scratch left Done = Accepted cs Right new scratch left
+Told cs Right old new scratch left (Refused n) = RefusedWith cs n old new scratch left
+
+-- the word of the coefficients
+abbrev pub Encoded : ℕ → List ℕ → List ℕ → List ℕ → List ℕ → List ℕ → List ℕ → Outcome → Type 0
+Encoded m bs coefficients old new scratch left =
+    Told (encodeChecks m bs coefficients (length old) (length scratch)) (λ w. w ≡ wordOf (symbols m) (length bs) bs coefficients) old new scratch left
+
+-- p is the coefficients of the codeword: there are n/8, and they have no other word
+pub record CoefficientsOf (m : ℕ) (bs word p : List ℕ) : Type 0 where
+  pub count : length p ≡ 2 ^ (length bs - 3)
+  pub elements : All (symbols m .Sym) p
+  pub word-is : word ≡ wordOf (symbols m) (length bs) bs p
+
+-- the coefficients of the word
+abbrev pub Decoded : ℕ → List ℕ → List ℕ → List ℕ → List ℕ → List ℕ → List ℕ → Outcome → Type 0
+Decoded m bs word old new scratch left =
+    Told (decodeChecks m bs word (length old) (length scratch)) (CoefficientsOf m bs word) old new scratch left

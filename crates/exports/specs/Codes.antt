@@ -1,0 +1,24 @@
+-- Answers as numbers.
+use Prim.Native.Nat.{ℕ, _+_, _%_}
+use Rattle.codec.specs.declared.Outcome.{Outcome}
+use Rattle.codec.specs.declared.Outcome.the-variants as outcome
+use Rattle.field.specs.declared.Value.{Value}
+use Rattle.field.specs.declared.Value.the-variants.{Symbol, Refused}
+use Rattle.verifier.specs.declared.Verdict.{Verdict}
+use Rattle.verifier.specs.declared.Verdict.the-variants as verdict
+
+-- 0, or the number of the refusal
+abbrev pub outcomeCode : Outcome → ℕ
+outcomeCode outcome.Done = 0
+outcomeCode (outcome.Refused n) = n
+
+-- the symbol, or 65536 and the number of the refusal
+abbrev pub valueCode : Value → ℕ
+valueCode (Symbol x) = x
+valueCode (Refused n) = 65536 + n
+
+-- the reads of an acceptance; 65536 and the reads of a rejection; 131072 and the number of a refusal
+abbrev pub verdictCode : Verdict → ℕ
+verdictCode (verdict.Accept n) = n % 65536
+verdictCode (verdict.Reject n) = 65536 + n % 65536
+verdictCode (verdict.Refused n) = 131072 + n
