@@ -2,7 +2,7 @@
 use mathlib.Core.Path.{_≡_, refl, sym, ap, _∙_, subst}
 use mathlib.Core.Logic.{inl, inr, _≢_}
 use mathlib.Core.List.{List, _++_}
-use Prim.Native.Nat.{ℕ, _*_, _/_, _-_, _^_, _≤_}
+use Prim.Native.Nat.{ℕ, zero, suc, _*_, _/_, _-_, _^_, _≤_}
 use native.Mathlib.Omega.{arith}
 use lib.ListN.{length}
 use Rattle.lists.specs.All.{Below}
@@ -17,7 +17,8 @@ use Rattle.space.specs.Sound.{setting-numbered}
 use Rattle.space.specs.declared.Checked.{Checked}
 use Rattle.space.specs.declared.Setting.{Setting}
 use Rattle.transform.proofs.BlockLaws.{eight}
-use Rattle.codec.specs.Calls.{lengthChecks, Early, symbolChecks, wordChecks, CoefficientsOf}
+use Rattle.codec.specs.declared.Outcome.the-variants.{Done, Refused}
+use Rattle.codec.specs.Calls.{outcomeOf, Told, lengthChecks, Early, symbolChecks, wordChecks, CoefficientsOf}
 use Rattle.codec.specs.Checks.{earlyChecks, lengths-passed}
 use Rattle.codec.specs.Words.{Usable, Lengths, EncodedWith, DecodedWith}
 use Rattle.codec.proofs.WordLaws.{usable}
@@ -121,3 +122,20 @@ module _ {m : ℕ} {bs : List ℕ} {s : Setting} (cs : Checks) (k : Numbered cs)
     decode-refused n (inr (inr (e, b, f, w))) h =
         refused-late cs (wordChecks m bs word) k p n old new scratch left (omega arith)
         (inr ((λ g. g (below-word b)), inl (subst (λ (i : ℕ). Codeword (symbols i) (length bs) bs word → ⊥) (r .modulus) (f bs (own-ready r)), e))) w z
+
+-- ---- the outcome by its number
+
+pub outcome-done : {n : ℕ} → n ≡ 0 → Done ≡ outcomeOf n
+unfolding outcomeOf
+outcome-done e = sym (ap outcomeOf e)
+
+pub outcome-refused : (n : ℕ) → n ≢ 0 → Refused n ≡ outcomeOf n
+unfolding outcomeOf
+outcome-refused zero h = absurd (h refl)
+outcome-refused (suc n) h = refl
+
+pub told-of : {cs : Checks} {Right : List ℕ → Type 0} {old new scratch left : List ℕ} (n : ℕ)
+    → (n ≡ 0 → Accepted cs Right new scratch left) → (n ≢ 0 → RefusedWith cs n old new scratch left) → Told cs Right old new scratch left (outcomeOf n)
+unfolding outcomeOf
+told-of zero a r = a refl
+told-of (suc n) a r = r (λ e. omega arith)

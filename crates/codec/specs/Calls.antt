@@ -2,7 +2,7 @@
 use mathlib.Core.Path.{_≡_}
 use mathlib.Core.Logic.{_⊎_, _≢_}
 use mathlib.Core.List.{List, [], _∷_, _++_}
-use Prim.Native.Nat.{ℕ, _*_, _-_, _^_, _<_}
+use Prim.Native.Nat.{ℕ, zero, suc, _*_, _-_, _^_, _<_}
 use lib.ListN.{length}
 use Rattle.lists.specs.All.{All, Below}
 use Rattle.lists.specs.Answers.{Checks, Answers}
@@ -37,6 +37,11 @@ encodeChecks m bs coefficients word scratch = settingChecks m bs ++ lengthChecks
 -- the checks of the decoder
 abbrev pub decodeChecks : ℕ → List ℕ → List ℕ → ℕ → ℕ → Checks
 decodeChecks m bs word coefficients scratch = settingChecks m bs ++ lengthChecks (length bs) coefficients (length word) scratch ++ wordChecks m bs word
+
+-- the outcome by its number
+unfoldable pub outcomeOf : ℕ → Outcome
+outcomeOf zero = Done
+outcomeOf (suc n) = Refused (suc n)
 
 -- what an outcome says of the output and of the scratch
 abbrev pub Told : Checks → (List ℕ → Type 0) → List ℕ → List ℕ → List ℕ → List ℕ → Outcome → Type 0

@@ -1,21 +1,20 @@
 // Encoder and decoder. A call makes its checks in order; a refusal leaves its output as it came, and
 // past check 7 the scratch is zero.
 pub mod convert;
+pub mod decoder;
+pub mod encoder;
 pub mod novel;
-pub mod words;
 
 use convert::power;
-use field::modulus::all_symbols;
-use space::Setting;
-use transform::blocks::is_codeword;
+use decoder::decode_with;
+use encoder::encode_with;
 use transform::slices::clear;
-use words::read_coefficients;
-use words::write_word;
 ghost use mathlib.Core.Path.{_≡_};
 ghost use Prim.Native.Nat.{_≤_};
+ghost use lib.ListN.{length};
 ghost use Rattle.lists.specs.Answers.{Answers};
-ghost use Rattle.codec.specs.Words.{Usable, Lengths, EncodedWith, DecodedWith};
-ghost use Rattle.codec.specs.Calls.{lengthChecks, Early, Encoded, Decoded};
+ghost use Rattle.lists.specs.Calls.{zeros};
+ghost use Rattle.codec.specs.Calls.{lengthChecks, Early, outcomeOf, Encoded, Decoded};
 
 // A call is done, or refused with a number.
 pub enum Outcome {
@@ -52,17 +51,15 @@ fn early_refusal(refusal: u8, k: usize, coefficients: usize, word: usize, scratc
     refusal
 }
 
-// Check 9, then the word.
-fn encode_with(s: Setting, coefficients: &[u16], word: &mut [u16], scratch: &mut [u16]) -> u8
-    requires { ⌜ Usable s × Lengths s (now coefficients) (now word) (now scratch) ⌝ }
-    ensures { λ r. ⌜ EncodedWith s (now (coefficients .entry)) (now (word .entry)) (now (word .exit)) r ⌝ }
+// The outcome by its number, with the scratch cleared.
+fn finish(number: u8, scratch: &mut [u16]) -> Outcome
+    ensures { λ r. ⌜ (r ≡ outcomeOf number) × (now (scratch .exit) ≡ zeros (length (now (scratch .entry)))) ⌝ }
 {
-    let f = s.field;
-    if all_symbols(f, coefficients) {
-        write_word(s, coefficients, word, scratch);
-        return 0;
+    clear(scratch);
+    if number == 0 {
+        return Outcome::Done;
     }
-    9
+    Outcome::Refused(number)
 }
 
 // The word of the coefficients.
@@ -90,32 +87,9 @@ pub fn encode(
         scratch.len(),
     );
     if refusal == 0 {
-        let number = encode_with(s, coefficients, word, scratch);
-        clear(scratch);
-        if number == 0 {
-            return Outcome::Done;
-        }
-        return Outcome::Refused(number);
+        return finish(encode_with(s, coefficients, word, scratch), scratch);
     }
     Outcome::Refused(refusal)
-}
-
-// Checks 9 and 10, then the coefficients.
-fn decode_with(s: Setting, word: &[u16], coefficients: &mut [u16], scratch: &mut [u16]) -> u8
-    requires { ⌜ Usable s × Lengths s (now coefficients) (now word) (now scratch) ⌝ }
-    ensures { λ r. ⌜ DecodedWith s (now (word .entry)) (now (coefficients .entry)) (now (coefficients .exit)) r ⌝ }
-{
-    let f = s.field;
-    let images = s.space.images;
-    let n = word.len();
-    if all_symbols(f, word) {
-        if is_codeword(f, &images, s.space.k, word, &mut scratch[..n]) {
-            read_coefficients(s, coefficients, scratch);
-            return 0;
-        }
-        return 10;
-    }
-    9
 }
 
 // The coefficients of a codeword.
@@ -142,12 +116,7 @@ pub fn decode(
         scratch.len(),
     );
     if refusal == 0 {
-        let number = decode_with(s, word, coefficients, scratch);
-        clear(scratch);
-        if number == 0 {
-            return Outcome::Done;
-        }
-        return Outcome::Refused(number);
+        return finish(decode_with(s, word, coefficients, scratch), scratch);
     }
     Outcome::Refused(refusal)
 }

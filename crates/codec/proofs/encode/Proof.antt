@@ -1,5 +1,5 @@
--- `codec::encode` meets its contract: a case for each of its three ways out. Assumes nothing.
-use mathlib.Core.Path.{_≡_, ap, _∙_}
+-- `codec::encode` meets its contract: a case for each of its two ways out. Assumes nothing.
+use mathlib.Core.Path.{_≡_, sym, ap, subst, _∙_}
 use mathlib.Core.List.{List}
 use Prim.Native.Nat.{ℕ}
 use lib.ListN.{length}
@@ -7,9 +7,9 @@ use borrow.Author.Needs.{needs}
 use Rattle.lists.specs.Answers.{Passes}
 use Rattle.lists.specs.Calls.{zeros}
 use Rattle.space.specs.Ready.{Ready}
-use Rattle.codec.specs.Calls.{symbolChecks}
+use Rattle.codec.specs.Calls.{symbolChecks, Encoded}
 use Rattle.codec.specs.Checks.{earlyChecks, early-numbered}
-use Rattle.codec.proofs.CallLaws.{early-passes, early-ready, early-lengths, early-refused, dimensions, ready-usable, ready-lengths, encode-done, encode-refused}
+use Rattle.codec.proofs.CallLaws.{early-passes, early-ready, early-lengths, early-refused, dimensions, ready-usable, ready-lengths, told-of, encode-done, encode-refused}
 use Rattle.codec.proofs.encode.Statement.{statement}
 use Rattle.codec.proofs.encode.Tie as tie
 
@@ -45,15 +45,15 @@ module _ (c : tie.Then1) where
   set = early-ready (m at) (bs at) (length (coefficients at)) (length (word at)) (length (scratch at)) (at .before .before .check .result) (at .before .before .check .ensures) (at .early-refusal .result) (at .early-refusal .ensures) (c .if1 .taken)
 
 -- ---- once the scratch is cleared
-module _ (c : tie.After-clear) where
+module _ (c : tie.After-finish) where
   abbrev made : tie.After-encode-with
   made = c .before .before .before .before .before .before
 
   abbrev then : tie.Then1
   then = made .before .before .before
 
-  cleared : c .clear .last .0 ≡ zeros (length (scratch (at then)))
-  cleared = c .clear .ensures ∙ ap zeros (made .encode-with .kept .1 .1 .1 .0)
+  cleared : c .finish .last .1 .0 ≡ zeros (length (scratch (at then)))
+  cleared = c .finish .ensures .1 ∙ ap zeros (made .encode-with .kept .1 .1 .1 .0)
 
 check-requires : tie.Need-check-requires
 check-requires c κs = search needs
@@ -72,8 +72,8 @@ encode-with-requires c κs =
           (early-lengths (m here) (bs here) (length (coefficients here)) (length (word here)) (length (scratch here)) (here .before .before .check .result) (here .before .before .check .ensures) (here .early-refusal .result) (here .early-refusal .ensures) (then .if1 .taken)),
     )
 
-clear-requires : tie.Need-clear-requires
-clear-requires c κs = search needs
+finish-requires : tie.Need-finish-requires
+finish-requires c κs = search needs
 
 same-length : tie.Need-same-length
 same-length c = search needs
@@ -83,32 +83,23 @@ same-length-2 c = search needs
 
 returns : tie.Need-returns
 returns c =
-    let here = c .before .before .before in
+    let here = c .before .before in
     let then1 = then here in
     let a = at then1 in
     let o = made here in
-    encode-done (earlyChecks (m a) (bs a) (length (coefficients a)) (length (word a)) (length (scratch a)))
+    let new : List ℕ = o .encode-with .last .1 .1 .0 in
+    let left : List ℕ = here .finish .last .1 .0 in
+    subst (Encoded (m a) (bs a) (coefficients a) (word a) new (scratch a) left) (sym (here .finish .ensures .0))
+    (told-of (o .encode-with .result)
+    (encode-done (earlyChecks (m a) (bs a) (length (coefficients a)) (length (word a)) (length (scratch a)))
     (early-numbered (m a) (bs a) (length (coefficients a)) (length (word a)) (length (scratch a))) (passing then1) (set then1)
-    (word a) (o .encode-with .last .1 .1 .0) (scratch a) _ (cleared here) (coefficients a) (o .encode-with .result) (o .encode-with .ensures) (c .if2 .taken)
-
-same-length-3 : tie.Need-same-length-3
-same-length-3 c = search needs
-
-same-length-4 : tie.Need-same-length-4
-same-length-4 c = search needs
+    (word a) new (scratch a) left (cleared here) (coefficients a) (o .encode-with .result) (o .encode-with .ensures))
+    (encode-refused (earlyChecks (m a) (bs a) (length (coefficients a)) (length (word a)) (length (scratch a)))
+    (early-numbered (m a) (bs a) (length (coefficients a)) (length (word a)) (length (scratch a))) (passing then1) (set then1)
+    (word a) new (scratch a) left (cleared here) (coefficients a) (o .encode-with .result) (o .encode-with .ensures)))
 
 returns-2 : tie.Need-returns-2
 returns-2 c =
-    let here = c .before .before .before in
-    let then1 = then here in
-    let a = at then1 in
-    let o = made here in
-    encode-refused (earlyChecks (m a) (bs a) (length (coefficients a)) (length (word a)) (length (scratch a)))
-    (early-numbered (m a) (bs a) (length (coefficients a)) (length (word a)) (length (scratch a))) (passing then1) (set then1)
-    (word a) (o .encode-with .last .1 .1 .0) (scratch a) _ (cleared here) (coefficients a) (o .encode-with .result) (o .encode-with .ensures) (c .if2 .left)
-
-returns-3 : tie.Need-returns-3
-returns-3 c =
     let a = c .before in
     early-refused (m a) (bs a) (length (coefficients a)) (length (word a)) (length (scratch a)) (a .before .before .check .result) (a .before .before .check .ensures)
     (symbolChecks (m a) (coefficients a)) (a .early-refusal .result) (word a) (scratch a) (a .early-refusal .ensures) (c .if1 .left)
@@ -120,11 +111,8 @@ encode-spec =
     check-requires
     early-refusal-requires
     encode-with-requires
-    clear-requires
+    finish-requires
     same-length
     same-length-2
     returns
-    same-length-3
-    same-length-4
-    returns-2
-    returns-3)
+    returns-2)

@@ -1,4 +1,4 @@
--- `codec::words::write_word` meets its contract. Assumes nothing.
+-- `codec::encoder::write_word` meets its contract. Assumes nothing.
 use mathlib.Core.Path.{_≡_, sym, ap, subst, _∙_}
 use mathlib.Core.List.{List, _++_}
 use Prim.Native.Nat.{ℕ, _+_, _-_, _*_, _^_, _≤_, _<_}
@@ -14,8 +14,8 @@ use Rattle.transform.proofs.BlockLaws.{eight}
 use Rattle.codec.specs.Words.{LanesOf}
 use Rattle.codec.proofs.Loading.{part-stretch}
 use Rattle.codec.proofs.WordLaws.{stepped, written}
-use Rattle.codec.proofs.words.write_word.Statement.{statement}
-use Rattle.codec.proofs.words.write_word.Tie as tie
+use Rattle.codec.proofs.encoder.write_word.Statement.{statement}
+use Rattle.codec.proofs.encoder.write_word.Tie as tie
 
 -- ---- the lengths
 module _ (c : tie.Start) where

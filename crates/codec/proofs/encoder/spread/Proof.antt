@@ -1,4 +1,4 @@
--- `codec::words::spread` meets its contract. The loop's invariant: the first p numbers are written. Assumes nothing.
+-- `codec::encoder::spread` meets its contract. The loop's invariant: the first p numbers are written. Assumes nothing.
 use mathlib.Core.Path.{_≡_, refl, sym, ap, ap₂, _∙_}
 use mathlib.Core.List.{List}
 use Prim.Native.Nat.{ℕ, _-_, _/_, _≤_, _<_}
@@ -7,8 +7,8 @@ use lib.ListN.{length, getD, set, length-set}
 use Rattle.lists.specs.Overwrite.{mix, mix-none, mix-all, set-mix}
 use Rattle.codec.specs.Words.{spreadOf}
 use Rattle.codec.proofs.Spreading.{length-spread, getD-spread}
-use Rattle.codec.proofs.words.spread.Statement.{statement}
-use Rattle.codec.proofs.words.spread.Tie as tie
+use Rattle.codec.proofs.encoder.spread.Statement.{statement}
+use Rattle.codec.proofs.encoder.spread.Tie as tie
 
 abbrev Inv-loop : tie.InvT-loop
 Inv-loop from to₀ p₀ to p = (p ≤ length to₀) × (length to ≡ length to₀) × (to ≡ mix p (spreadOf (length to₀) from) to₀)

@@ -1,4 +1,4 @@
--- `codec::encode_with` meets its contract. Assumes nothing.
+-- `codec::encoder::encode_with` meets its contract. Assumes nothing.
 use mathlib.Core.Path.{refl}
 use mathlib.Core.Logic.{inl, inr}
 use Prim.Native.Nat.{_^_}
@@ -6,8 +6,8 @@ use borrow.Author.Needs.{needs}
 use Rattle.lists.specs.All.{Below}
 use Rattle.lists.specs.Decides.{decides-true, decides-false}
 use Rattle.field.specs.Binary.{degree}
-use Rattle.codec.proofs.encode_with.Statement.{statement}
-use Rattle.codec.proofs.encode_with.Tie as tie
+use Rattle.codec.proofs.encoder.encode_with.Statement.{statement}
+use Rattle.codec.proofs.encoder.encode_with.Tie as tie
 
 module _ (c : tie.After-all-symbols) where
   abbrev start : tie.Start

@@ -1,4 +1,4 @@
--- `codec::decode_with` meets its contract. Assumes nothing.
+-- `codec::decoder::decode_with` meets its contract. Assumes nothing.
 use mathlib.Core.Path.{_≡_, refl, sym, _∙_}
 use mathlib.Core.Logic.{inl, inr}
 use mathlib.Core.List.{List, _++_}
@@ -11,8 +11,8 @@ use Rattle.lists.specs.All.{Below}
 use Rattle.lists.specs.Decides.{decides-true, decides-false}
 use Rattle.field.specs.Binary.{degree}
 use Rattle.codec.proofs.WordLaws.{front-below, tested-zero, tested-none}
-use Rattle.codec.proofs.decode_with.Statement.{statement}
-use Rattle.codec.proofs.decode_with.Tie as tie
+use Rattle.codec.proofs.decoder.decode_with.Statement.{statement}
+use Rattle.codec.proofs.decoder.decode_with.Tie as tie
 
 -- ---- check 9
 module _ (c : tie.After-all-symbols) where

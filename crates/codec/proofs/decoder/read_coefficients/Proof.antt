@@ -1,4 +1,4 @@
--- `codec::words::read_coefficients` meets its contract. Assumes nothing.
+-- `codec::decoder::read_coefficients` meets its contract. Assumes nothing.
 use mathlib.Core.Path.{_≡_, sym, ap, subst, _∙_}
 use mathlib.Core.List.{List}
 use Prim.Native.Nat.{ℕ, _+_, _-_, _*_, _^_, _≤_, _<_}
@@ -13,8 +13,8 @@ use Rattle.field.specs.Binary.{degree}
 use Rattle.transform.proofs.BlockLaws.{eight}
 use Rattle.codec.proofs.Loading.{part-stretch}
 use Rattle.codec.proofs.WordLaws.{stepped, stepped-inverses, read}
-use Rattle.codec.proofs.words.read_coefficients.Statement.{statement}
-use Rattle.codec.proofs.words.read_coefficients.Tie as tie
+use Rattle.codec.proofs.decoder.read_coefficients.Statement.{statement}
+use Rattle.codec.proofs.decoder.read_coefficients.Tie as tie
 
 -- ---- the lengths
 module _ (c : tie.Start) where

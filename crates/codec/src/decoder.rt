@@ -1,0 +1,51 @@
+// From a codeword to its coefficients, in a setting that passed its checks.
+use super::novel::powers_of;
+use field::modulus::all_symbols;
+use space::Setting;
+use transform::blocks::is_codeword;
+use transform::slices::copy;
+use transform::slices::from_lane;
+ghost use mathlib.Core.Path.{_≡_};
+ghost use mathlib.Core.List.{List};
+ghost use Prim.Native.Nat.{ℕ, _*_, _-_, _^_, _≤_};
+ghost use lib.ListN.{length};
+ghost use Rattle.lists.specs.All.{Below};
+ghost use Rattle.lists.specs.Lanes.{lane};
+ghost use Rattle.field.specs.Binary.{degree};
+ghost use Rattle.space.specs.Ready.{Ready};
+ghost use Rattle.codec.specs.Words.{Usable, Lengths, InBlockZero, DecodedWith};
+ghost use Rattle.codec.specs.Calls.{CoefficientsOf};
+
+// The coefficients of a codeword, from those of its blocks over the novel basis, which are the first
+// lanes of the scratch.
+fn read_coefficients(s: Setting, coefficients: &mut [u16], scratch: &mut [u16])
+    requires { ⌜ Usable s × (length (now coefficients) ≡ 2 ^ (s .space .k - 3)) × (4 * 2 ^ s .space .k ≤ length (now scratch)) × Below (2 ^ degree (s .field .modulus)) (lane 8 0 (2 ^ (s .space .k - 3)) (now scratch)) ⌝ }
+    ensures { λ _. ⌜ ((bs : List ℕ) → Ready (s .field .modulus) bs s → (word : List ℕ) → InBlockZero s bs word (now (scratch .entry)) → CoefficientsOf (s .field .modulus) bs word (now (coefficients .exit))) ⌝ }
+{
+    let f = s.field;
+    let steps = s.steps;
+    let inverses = s.inverses;
+    let size = coefficients.len();
+    let end = size + size;
+    from_lane(scratch, 8, 0, coefficients);
+    powers_of(f, &steps, &inverses, s.space.k - 3, coefficients, scratch);
+    copy(&scratch[size..end], coefficients);
+}
+
+// Checks 9 and 10, then the coefficients.
+pub fn decode_with(s: Setting, word: &[u16], coefficients: &mut [u16], scratch: &mut [u16]) -> u8
+    requires { ⌜ Usable s × Lengths s (now coefficients) (now word) (now scratch) ⌝ }
+    ensures { λ r. ⌜ DecodedWith s (now (word .entry)) (now (coefficients .entry)) (now (coefficients .exit)) r ⌝ }
+{
+    let f = s.field;
+    let images = s.space.images;
+    let n = word.len();
+    if all_symbols(f, word) {
+        if is_codeword(f, &images, s.space.k, word, &mut scratch[..n]) {
+            read_coefficients(s, coefficients, scratch);
+            return 0;
+        }
+        return 10;
+    }
+    9
+}
