@@ -1,4 +1,5 @@
 -- Laws that belong to no one function.
+pub mod CallLaws
 pub mod Gathering
 pub mod LastBasis
 pub mod LineOrder
