@@ -6,20 +6,20 @@ use Prim.Native.Nat.{ℕ, zero, suc, _*_, _/_, _-_, _^_, _≤_}
 use native.Mathlib.Omega.{arith}
 use lib.ListN.{length}
 use Rattle.lists.specs.All.{Below}
-use Rattle.lists.specs.Answers.{Checks, Answers, Passes, Numbered, answers-after, refused-first}
-use Rattle.lists.specs.Calls.{zeros, Accepted, RefusedWith, Within, refused-early, refused-late, accepted}
+use Rattle.lists.specs.Answers.{Checks, Passes, Numbered}
+use Rattle.lists.specs.Calls.{zeros, Accepted, RefusedWith, Within, refused-late, accepted}
 use Rattle.field.specs.Binary.{degree}
 use Rattle.field.specs.Symbols.{symbols}
 use Rattle.poly.specs.Codeword.{wordOf, Codeword}
-use Rattle.space.specs.Ready.{Ready, ready, settled-answer}
-use Rattle.space.specs.Setting.{settingChecks, Settled}
-use Rattle.space.specs.Sound.{setting-numbered}
+use Rattle.space.specs.Ready.{Ready}
+use Rattle.space.specs.Setting.{Settled}
 use Rattle.space.specs.declared.Checked.{Checked}
 use Rattle.space.specs.declared.Setting.{Setting}
 use Rattle.transform.proofs.BlockLaws.{eight}
 use Rattle.codec.specs.declared.Outcome.the-variants.{Done, Refused}
 use Rattle.codec.specs.Calls.{outcomeOf, Told, lengthChecks, Early, symbolChecks, wordChecks, CoefficientsOf}
 use Rattle.codec.specs.Checks.{earlyChecks, lengths-passed}
+use Rattle.codec.specs.Early as early
 use Rattle.codec.specs.Words.{Usable, Lengths, EncodedWith, DecodedWith}
 use Rattle.codec.proofs.WordLaws.{usable}
 
@@ -34,37 +34,26 @@ module _ (m : ℕ) (bs : List ℕ) (a b s : ℕ) where
   early-within = (omega arith, (omega arith, (omega arith, (omega arith, (omega arith, (omega arith, (omega arith, tt)))))))
 
   module _ (c : Checked) (set : Settled m bs c) where
-    pub dimensions : c .refusal ≡ 0 → (3 ≤ length bs) × (length bs ≤ 12)
-    dimensions e = let r = ready m bs c set e in (r .sound .low, r .sound .high)
+    abbrev cs : Checks
+    cs = lengthChecks (length bs) a b s
 
-    early-answer : (r : ℕ) → Early (c .refusal) (length bs) a b s r → Answers (earlyChecks m bs a b s) r
-    early-answer r (inl (z, p)) =
-        answers-after (settingChecks m bs) (lengthChecks (length bs) a b s) r (setting-numbered m bs) (subst (Answers (settingChecks m bs)) z (settled-answer m bs c set)) p
-    early-answer r (inr (l, e)) =
-        refused-first (settingChecks m bs) (lengthChecks (length bs) a b s) r (omega arith) (subst (Answers (settingChecks m bs)) (sym e) (settled-answer m bs c set))
+    pub dimensions : c .refusal ≡ 0 → (3 ≤ length bs) × (length bs ≤ 12)
+    dimensions e = early.dimensions m bs cs c set e
 
     -- a refusal by checks 1 to 7
-    pub early-refused : (ds : Checks) (r : ℕ) (old scratch : List ℕ) → Early (c .refusal) (length bs) a b s r → r ≢ 0 → RefusedWith ((earlyChecks m bs a b s) ++ ds) r old old scratch scratch
-    early-refused ds r old scratch e n = refused-early (earlyChecks m bs a b s) ds r old scratch early-within (omega (arith, n)) (early-answer r e)
+    pub early-refused : (ds : Checks) (r : ℕ) (old scratch : List ℕ) → Early (c .refusal) (length bs) a b s r → r ≢ 0 → RefusedWith (earlyChecks m bs a b s ++ ds) r old old scratch scratch
+    early-refused ds r old scratch e n = early.early-refused m bs cs c set early-within ds r old scratch e n
 
     -- past them
     module _ (r : ℕ) (e : Early (c .refusal) (length bs) a b s r) (z : r ≡ 0) where
       pub early-passes : Passes (earlyChecks m bs a b s)
-      early-passes = subst (Answers (earlyChecks m bs a b s)) z (early-answer r e)
-
-      first-zero : Early (c .refusal) (length bs) a b s r → c .refusal ≡ 0
-      first-zero (inl (y, p)) = y
-      first-zero (inr (l, y)) = absurd (omega arith)
+      early-passes = early.early-passes m bs cs c set r e z
 
       pub early-ready : Ready m bs (c .setting)
-      early-ready = ready m bs c set (first-zero e)
+      early-ready = early.early-ready m bs cs c set r e z
 
       pub early-lengths : (a ≡ 2 ^ (length bs - 3)) × (b ≡ 2 ^ length bs) × (4 * 2 ^ length bs ≤ s)
-      early-lengths = lengths-passed (length bs) a b s (passing e)
-        where
-          passing : Early (c .refusal) (length bs) a b s r → Passes (lengthChecks (length bs) a b s)
-          passing (inl (y, p)) = subst (Answers (lengthChecks (length bs) a b s)) z p
-          passing (inr (l, y)) = absurd (omega arith)
+      early-lengths = lengths-passed (length bs) a b s (early.early-rest m bs cs c set r e z)
 
 -- the setting by its own modulus
 pub own-ready : {m : ℕ} {bs : List ℕ} {s : Setting} → Ready m bs s → Ready (s .field .modulus) bs s

@@ -11,6 +11,7 @@ use Rattle.field.specs.Binary.{degree}
 use Rattle.field.specs.Symbols.{symbols}
 use Rattle.poly.specs.Codeword.{wordOf, Codeword}
 use Rattle.space.specs.Setting.{settingChecks}
+use Rattle.codec.specs.Early.{EarlyOf}
 use Rattle.codec.specs.declared.Outcome.{Outcome}
 use Rattle.codec.specs.declared.Outcome.the-variants.{Done, Refused}
 
@@ -20,7 +21,7 @@ lengthChecks k coefficients word scratch = (6, (coefficients ≢ 2 ^ (k - 3)) �
 
 -- the answer of checks 1 to 7, from that of checks 1 to 5
 abbrev pub Early : ℕ → ℕ → ℕ → ℕ → ℕ → ℕ → Type 0
-Early refusal k coefficients word scratch r = ((refusal ≡ 0) × Answers (lengthChecks k coefficients word scratch) r) ⊎ ((0 < refusal) × (r ≡ refusal))
+Early refusal k coefficients word scratch r = EarlyOf (lengthChecks k coefficients word scratch) refusal r
 
 -- check 9, of symbols that are read
 abbrev pub symbolChecks : ℕ → List ℕ → Checks

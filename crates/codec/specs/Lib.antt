@@ -3,6 +3,7 @@ pub mod Sparse
 pub mod Convert
 pub mod Scales
 pub mod Novel
+pub mod Early
 pub mod Calls
 pub mod Checks
 pub mod Words

@@ -52,7 +52,7 @@ fn early_refusal(refusal: u8, k: usize, coefficients: usize, word: usize, scratc
 }
 
 // The outcome by its number, with the scratch cleared.
-fn finish(number: u8, scratch: &mut [u16]) -> Outcome
+pub fn finish(number: u8, scratch: &mut [u16]) -> Outcome
     ensures { λ r. ⌜ (r ≡ outcomeOf number) × (now (scratch .exit) ≡ zeros (length (now (scratch .entry)))) ⌝ }
 {
     clear(scratch);

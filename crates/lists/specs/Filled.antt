@@ -2,15 +2,15 @@
 use mathlib.Core.Path.{_≡_, refl, sym, ap, _∙_, subst}
 use mathlib.Core.Logic.{_⊎_, inl, inr}
 use mathlib.Core.List.{List, _++_}
-use Prim.Native.Nat.{ℕ, _+_, _-_, _≤_, _<_}
+use Prim.Native.Nat.{ℕ, _+_, _-_, _*_, _≤_, _<_, min}
 use native.Mathlib.Decide.{decLt}
 use native.Mathlib.Omega.{arith}
-use lib.ListN.{length, getD, set, take, drop, length-set, List·getD-append}
+use lib.ListN.{length, getD, set, take, drop, length-set, length-take, length-drop, List·getD-append}
 use lib.Seq.{ext-getD, getD-set-same, getD-set-other, getD-take, getD-drop, length-take-le}
 use borrow.Rule.Slice.PartMut.{putMid}
 use Rattle.lists.specs.All.{All, All-of, All-inside}
 use Rattle.lists.specs.Overwrite.{getD-append-at, length-put}
-use Rattle.lists.specs.Tables.{tab, length-tab, getD-tab}
+use Rattle.lists.specs.Tables.{tab, part, length-tab, getD-tab, length-part, getD-part, part-fits}
 
 -- the list is `old` with f 0, f 1, .. at the n places from a on
 pub record Filled (a n : ℕ) (f : ℕ → ℕ) (old new : List ℕ) : Type 0 where
@@ -99,3 +99,27 @@ put-filled a k xs ys h e =
         getD-append-at (take a xs) (ys ++ drop k (drop a xs)) (p - a) p (omega (arith, front))
         ∙ getD-append-at ys (drop k (drop a xs)) (p - (a + k)) (p - a) (omega arith)
         ∙ getD-drop k (drop a xs) (p - (a + k)) 0 ∙ getD-drop a xs (k + (p - (a + k))) 0 ∙ ap (λ (i : ℕ). getD xs i 0) back
+
+-- the parts of length m of a list of which one is filled
+module _ (m a : ℕ) {f : ℕ → ℕ} {old new : List ℕ} (s : Filled (a * m) m f old new) where
+  pub filled-part : a * m + m ≤ length old → part m a new ≡ tab m f
+  filled-part h =
+      let long : length (part m a new) ≡ m = length-part m a new (omega (arith, s .kept)) in
+      ext-getD 0 (part m a new) (tab m f) (long ∙ sym (length-tab m f))
+      (λ i k. let l : i < m = omega (arith, long) in getD-part m a i new 0 l ∙ s .inside i l ∙ sym (getD-tab m f i 0 l))
+
+  pub filled-other : (p : ℕ) → (p ≡ a → ⊥) → part m p new ≡ part m p old
+  filled-other p d =
+      ext-getD 0 (part m p new) (part m p old) (same-long (length-take m (drop (p * m) new)) (length-take m (drop (p * m) old)))
+      (λ i k. let l : i < m = omega (arith, length-take m (drop (p * m) new)) in
+      getD-part m p i new 0 l ∙ s .outside (p * m + i) (apart i l (decLt p a)) ∙ sym (getD-part m p i old 0 l))
+    where
+      same-long : length (part m p new) ≡ min m (length (drop (p * m) new)) → length (part m p old) ≡ min m (length (drop (p * m) old)) → length (part m p new) ≡ length (part m p old)
+      same-long e g = omega (arith, length-drop (p * m) new, length-drop (p * m) old, s .kept)
+
+      apart : (i : ℕ) → i < m → Dec (p < a) → (p * m + i < a * m) ⊎ (a * m + m ≤ p * m + i)
+      apart i l (yes z) = inl (omega (arith, part-fits {i = p} {n = a} m z))
+      apart i l (no z) = inr (omega (arith, part-fits {i = a} {n = p} m (other z)))
+        where
+          other : (p < a → ⊥) → a < p
+          other z = omega arith

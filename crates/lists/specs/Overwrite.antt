@@ -5,8 +5,8 @@ use Prim.Native.Nat.{ℕ, zero, suc, _+_, _-_, _*_, _≤_, _<_}
 use native.Mathlib.Nat.{suc-mul}
 use native.Mathlib.Omega.{arith}
 use native.Mathlib.Numerals.{add-one}
-use lib.ListN.{length, take, drop, getD, set, length-append, length-take, length-drop, length-set, drop-of-length-le, List·getD-append}
-use lib.Seq.{set-append-left, take-at, drop-at, take-all, length-take-le, getD-take, getD-drop}
+use lib.ListN.{length, take, drop, getD, set, length-append, length-take, length-drop, length-set, drop-of-length-le, take-append-drop, List·getD-append}
+use lib.Seq.{set-append-left, take-at, drop-at, take-all, take-append-le, drop-append-le, length-take-le, getD-take, getD-drop}
 use borrow.Rule.Slice.PartMut.{putMid, same-len-mid}
 
 -- the first i elements of `new`, and the rest of `old`
@@ -175,3 +175,19 @@ take-put-cut a k xs ys h e = let count : a + k - a ≡ k = omega arith in rw cou
 -- a copy over a whole list
 pub copy-whole : (new old : List ℕ) → length new ≡ length old → new ++ drop (length new) old ≡ new
 copy-whole new old e = rw (drop-of-length-le old {i = length new} (omega arith), append-nil new)
+
+-- what stands before the part, and the part
+pub put-before : (a n c m : ℕ) (xs ys : List ℕ) → a + n ≤ c → c ≤ length xs → take n (drop a (putMid c m xs ys)) ≡ take n (drop a xs)
+put-before a n c m xs ys h l = front (ys ++ drop m (drop c xs)) ∙ sym (ap (λ (t : List ℕ). take n (drop a t)) (sym (take-append-drop c xs)) ∙ front (drop c xs))
+  where
+    long : length (take c xs) ≡ c
+    long = length-take-le c xs l
+
+    front : (rest : List ℕ) → take n (drop a (take c xs ++ rest)) ≡ take n (drop a (take c xs))
+    front rest =
+        ap (take n) (drop-append-le a (take c xs) rest (omega (arith, long)))
+        ∙ take-append-le n (drop a (take c xs)) rest (omega (arith, long, length-drop a (take c xs)))
+
+pub put-here : (c m : ℕ) (xs ys : List ℕ) → c ≤ length xs → length ys ≡ m → take m (drop c (putMid c m xs ys)) ≡ ys
+put-here c m xs ys h e =
+    ap (take m) (drop-at (take c xs) (ys ++ drop m (drop c xs)) c (length-take-le c xs h)) ∙ take-at ys (drop m (drop c xs)) m e

@@ -29,7 +29,7 @@ use Rattle.proximity.specs.ByLine.{lineBasis}
 use Rattle.proximity.specs.LineImages.{imageColumn, elementImages, rowImages, columnImages, lineImages, LineTable}
 
 -- Sums are the same under every modulus
-same-elem : (m n : ℕ) (bs : List ℕ) (r : ℕ) → elem (symbols m) bs r ≡ elem (symbols n) bs r
+pub same-elem : (m n : ℕ) (bs : List ℕ) (r : ℕ) → elem (symbols m) bs r ≡ elem (symbols n) bs r
 same-elem m n [] r = refl
 same-elem m n (b ∷ bs) r = ap (λ (t : ℕ). bitOf (r % 2) b ⊕ t) (same-elem m n bs (r / 2))
 
@@ -88,18 +88,18 @@ module _ (m : ℕ) (irr : Irreducible m) (b t : List ℕ) (I : Images (symbols m
       length-low : length (take (h + 2) b) ≡ h + 2
       length-low = length-take-le (h + 2) b (omega arith)
 
-      length-rb : length rb ≡ h + 3
+      pub length-rb : length rb ≡ h + 3
       length-rb = length-append (take (h + 2) b) (rowLast K k b r ∷ []) ∙ omega (arith, length-low)
 
-      entry-low : (i : ℕ) → i < h + 2 → getD rb i 0 ≡ getD b i 0
+      pub entry-low : (i : ℕ) → i < h + 2 → getD rb i 0 ≡ getD b i 0
       entry-low i l = List·getD-append (take (h + 2) b) (rowLast K k b r ∷ []) 0 i (omega (arith, length-low)) ∙ getD-take (h + 2) b i 0 l
 
-      entry-last : getD rb (h + 2) 0 ≡ rowLast K k b r
+      pub entry-last : getD rb (h + 2) 0 ≡ rowLast K k b r
       entry-last =
           ap (λ (i : ℕ). getD rb i 0) {x = h + 2} {y = length (take (h + 2) b) + 0} (omega (arith, length-low))
           ∙ getD-append-add (take (h + 2) b) (rowLast K k b r ∷ []) 0 0
 
-      image-same : (j x : ℕ) → j < h + 2 → image K b j x ≡ image K rb j x
+      pub image-same : (j x : ℕ) → j < h + 2 → image K b j x ≡ image K rb j x
       image-same j x l = sym (image-append K (take (h + 2) b) (rowLast K k b r ∷ []) j x (omega (arith, length-low)) ∙ image-take K b (h + 2) j x l)
 
       -- the table of the space, at the basis elements that the row has too

@@ -1,22 +1,21 @@
 -- The transforms of the eight blocks, from the transform in lanes. Assumes nothing.
 use mathlib.Core.Path.{_≡_, refl, sym, ap, ap₂, _∙_, subst}
 use mathlib.Core.List.{List, map}
-use Prim.Native.Nat.{ℕ, _+_, _-_, _*_, _/_, _%_, _^_, _≤_, _<_}
-use native.Mathlib.Decide.{decLt}
-use native.Mathlib.Nat.{le-refl, div-lt-iff-lt-mul, mod-lt, div-add-mod'}
+use Prim.Native.Nat.{ℕ, _+_, _-_, _*_, _^_, _≤_, _<_}
+use native.Mathlib.Nat.{le-refl}
 use native.Mathlib.Omega.{arith}
 use lib.ListN.{length, getD, drop, length-drop, length-map, List·getD-map}
 use lib.Pow.{pow-pos, pow-add}
 use lib.Seq.{ext-getD, getD-drop}
-use Rattle.lists.specs.All.{All, Below, All-at, All-of}
-use Rattle.lists.specs.Tables.{part, All-tab, part-flat}
+use Rattle.lists.specs.All.{All, Below, All-of}
+use Rattle.lists.specs.Tables.{part, part-flat}
 use Rattle.lists.specs.Lanes.{length-lane, lane-each}
 use Rattle.field.specs.Binary.{_⊕_, degree, Irreducible}
 use Rattle.field.specs.Xor.{xor-zero-right}
 use Rattle.field.specs.Laws.{Ops, IsField}
 use Rattle.field.specs.Symbols.{symbols, symbols-field}
 use Rattle.field.specs.declared.Field.{Field}
-use Rattle.poly.specs.Span.{elem, elem-sym}
+use Rattle.poly.specs.Span.{elem}
 use Rattle.poly.specs.Novel.{image, image-zero, elem-image}
 use Rattle.poly.specs.Transform.{transform, inverse, transform-ext, inverse-ext, length-transform}
 use Rattle.poly.specs.Values.{table, imagesOf}
@@ -26,13 +25,12 @@ use Rattle.poly.specs.Blocks.{blockShift, blockValues, word-of-blocks}
 use Rattle.space.specs.Images.{Images}
 use Rattle.transform.specs.Lanes.{imageAt, laneShift, InLanes, Evaluated, Interpolated}
 use Rattle.transform.specs.Spans.{Zeros, imageList, SpanLanes}
+use Rattle.transform.specs.SpanLaws.{span-below}
 use Rattle.transform.specs.Blocks.{InBlocks, block, blockImage, BlocksInterpolated, BlocksEvaluated}
 use Rattle.transform.proofs.SpanLists.{length-images, images-at}
 
 pub eight : (k : ℕ) → 3 ≤ k → 2 ^ k ≡ 2 ^ (k - 3) * 8
 eight k h = ap (λ (t : ℕ). 2 ^ t) {x = k} {y = k - 3 + 3} (omega arith) ∙ pow-add 2 (k - 3) 3
-
--- ---- the lanes of a span
 
 module _ (q : ℕ) (irr : Irreducible q) (images : List ℕ) where
   abbrev K : Ops
@@ -40,24 +38,6 @@ module _ (q : ℕ) (irr : Irreducible q) (images : List ℕ) where
 
   abbrev F : IsField K
   F = symbols-field q irr
-
-  listed : Below (2 ^ degree q) images → (from c j : ℕ) → All (K .Sym) (imageList images from c j)
-  unfolding imageList
-  listed b from c j =
-      All-tab (K .Sym) c (λ i. imageAt images (from + i) j) (λ i h. All-at (K .Sym) images 0 b (pow-pos (degree q)) (16 * (from + i) + j))
-
-  -- they are symbols
-  pub span-below : (from c m : ℕ) (lanes : List ℕ) → SpanLanes images from c m lanes → Below (2 ^ degree q) images → Below (2 ^ degree q) lanes
-  span-below from c m lanes s b = All-of (K .Sym) lanes 0 (λ p h. at p (decLt p (m * 2 ^ c)))
-    where
-      at : (p : ℕ) → Dec (p < m * 2 ^ c) → getD lanes p 0 < 2 ^ degree q
-      at p (no z) = subst (K .Sym) (sym (s .outside p (omega arith))) (pow-pos (degree q))
-      at p (yes z) =
-          let j : ℕ = p / 2 ^ c in
-          let e : ℕ = p % 2 ^ c in
-          subst (K .Sym)
-          (sym (s .inside j (div-lt-iff-lt-mul (pow-pos c) .1 z) q irr e (mod-lt p (pow-pos c))) ∙ ap (λ (i : ℕ). getD lanes i 0) (div-add-mod' p (2 ^ c)))
-          (elem-sym F (imageList images from c j) e (listed b from c j))
 
   -- ---- with the basis whose images the table holds
 

@@ -4,3 +4,4 @@ pub mod Lanes
 pub mod Layers
 pub mod Slices
 pub mod Spans
+pub mod SpanLaws

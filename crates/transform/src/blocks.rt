@@ -15,7 +15,8 @@ ghost use Rattle.field.specs.Binary.{degree};
 ghost use Rattle.transform.specs.Spans.{Zeros};
 ghost use Rattle.transform.specs.Blocks.{InBlocks, BlocksInterpolated, BlocksEvaluated, EqualLanes, Tested, TestedLanes};
 
-fn no_shift() -> [u16; 16]
+// The images of 0.
+pub fn no_shift() -> [u16; 16]
     ensures { λ r. ⌜ Zeros 16 r ⌝ }
 {
     [0u16; 16]

@@ -6,7 +6,8 @@ ghost use Rattle.lists.specs.Filled.{Filled};
 ghost use Rattle.field.specs.Binary.{_⊕_};
 ghost use Rattle.transform.specs.Spans.{Zeros, SpanList, SpanLanes};
 
-fn no_lanes() -> [u16; 384]
+// Lanes of the element 0.
+pub fn no_lanes() -> [u16; 384]
     ensures { λ r. ⌜ Zeros 384 r ⌝ }
 {
     [0u16; 384]

@@ -1,0 +1,124 @@
+-- `prover::prove` meets its contract: a case for each of its two ways out. Assumes nothing.
+use mathlib.Core.Path.{_≡_, sym, ap, subst, _∙_}
+use mathlib.Core.List.{List, _++_}
+use Prim.Native.Nat.{ℕ}
+use lib.ListN.{length}
+use borrow.Author.Needs.{needs}
+use Rattle.lists.specs.Answers.{Checks, Passes, Numbered}
+use Rattle.lists.specs.Calls.{zeros}
+use Rattle.space.specs.Ready.{Ready}
+use Rattle.space.specs.Setting.{settingChecks}
+use Rattle.codec.specs.Calls.{wordChecks}
+use Rattle.codec.specs.Early.{dimensions, early-passes, early-ready, early-rest, early-refused}
+use Rattle.codec.proofs.CallLaws.{told-of}
+use Rattle.prover.specs.Calls.{lengthChecks, Proven}
+use Rattle.prover.proofs.CallLaws.{early-within, early-numbered, lengths-passed, in-setting, prove-done, prove-refused}
+use Rattle.prover.proofs.prove.Statement.{statement}
+use Rattle.prover.proofs.prove.Tie as tie
+
+-- ---- checks 1 to 7
+module _ (c : tie.After-early-refusal) where
+  abbrev start : tie.Start
+  start = c .before .before .before .before .before .before .before
+
+  abbrev m : ℕ
+  m = start .args .modulus
+
+  abbrev bs : List ℕ
+  bs = start .args .basis .now
+
+  abbrev word : List ℕ
+  word = start .args .word .now
+
+  abbrev proof : List ℕ
+  proof = start .args .proof .now
+
+  abbrev scratch : List ℕ
+  scratch = start .args .scratch .now
+
+  -- checks 6 and 7
+  abbrev lengths : Checks
+  lengths = lengthChecks (length bs) (length word) (length proof) (length scratch)
+
+  numbered : Numbered (settingChecks m bs ++ lengths)
+  numbered = early-numbered m bs (length word) (length proof) (length scratch)
+
+-- ---- past check 7
+module _ (c : tie.Then1) where
+  abbrev at : tie.After-early-refusal
+  at = c .before
+
+  passing : Passes (settingChecks (m at) (bs at) ++ lengths at)
+  passing = early-passes (m at) (bs at) (lengths at) (at .before .before .check .result) (at .before .before .check .ensures) (at .early-refusal .result) (at .early-refusal .ensures) (c .if1 .taken)
+
+  set : Ready (m at) (bs at) (at .before .before .check .result .setting)
+  set = early-ready (m at) (bs at) (lengths at) (at .before .before .check .result) (at .before .before .check .ensures) (at .early-refusal .result) (at .early-refusal .ensures) (c .if1 .taken)
+
+  right-lengths : Passes (lengths at)
+  right-lengths = early-rest (m at) (bs at) (lengths at) (at .before .before .check .result) (at .before .before .check .ensures) (at .early-refusal .result) (at .early-refusal .ensures) (c .if1 .taken)
+
+-- ---- once the scratch is cleared
+module _ (c : tie.After-finish) where
+  abbrev made : tie.After-prove-with
+  made = c .before .before .before .before .before .before
+
+  abbrev then : tie.Then1
+  then = made .before .before .before
+
+  cleared : c .finish .last .1 .0 ≡ zeros (length (scratch (at then)))
+  cleared = c .finish .ensures .1 ∙ ap zeros (made .prove-with .kept .1 .1 .1 .0)
+
+check-requires : tie.Need-check-requires
+check-requires c κs = search needs
+
+early-refusal-requires : tie.Need-early-refusal-requires
+early-refusal-requires c κs =
+    let start = c .before .before .before .before .before .before in
+    dimensions (start .args .modulus) (start .args .basis .now) (lengthChecks 0 0 0 0) (c .before .check .result) (c .before .check .ensures)
+
+prove-with-requires : tie.Need-prove-with-requires
+prove-with-requires c κs =
+    let then = c .before .before in
+    let here = at then in
+    in-setting (word here) (proof here) (scratch here) (set then) (lengths-passed (length (bs here)) (length (word here)) (length (proof here)) (length (scratch here)) (right-lengths then))
+
+finish-requires : tie.Need-finish-requires
+finish-requires c κs = search needs
+
+same-length : tie.Need-same-length
+same-length c = search needs
+
+same-length-2 : tie.Need-same-length-2
+same-length-2 c = search needs
+
+returns : tie.Need-returns
+returns c =
+    let here = c .before .before in
+    let then1 = then here in
+    let a = at then1 in
+    let o = made here in
+    let new : List ℕ = o .prove-with .last .1 .1 .0 in
+    let left : List ℕ = here .finish .last .1 .0 in
+    subst (Proven (m a) (bs a) (word a) (proof a) new (scratch a) left) (sym (here .finish .ensures .0))
+    (told-of (o .prove-with .result)
+    (prove-done (settingChecks (m a) (bs a) ++ lengths a) (numbered a) (passing then1) (set then1) (proof a) new (scratch a) left (cleared here) (word a) (o .prove-with .result) (o .prove-with .ensures))
+    (prove-refused (settingChecks (m a) (bs a) ++ lengths a) (numbered a) (passing then1) (set then1) (proof a) new (scratch a) left (cleared here) (word a) (o .prove-with .result) (o .prove-with .ensures)))
+
+returns-2 : tie.Need-returns-2
+returns-2 c =
+    let a = c .before in
+    early-refused (m a) (bs a) (lengths a) (a .before .before .check .result) (a .before .before .check .ensures) (early-within (m a) (bs a) (length (word a)) (length (proof a)) (length (scratch a)))
+    (wordChecks (m a) (bs a) (word a)) (a .early-refusal .result) (proof a) (scratch a) (a .early-refusal .ensures) (c .if1 .left)
+
+pub prove-spec : {M : Type 1} → statement M
+prove-spec =
+    tie.close
+    (tie.spec
+    check-requires
+    early-refusal-requires
+    prove-with-requires
+    finish-requires
+    same-length
+    same-length-2
+    returns
+    returns-2)
