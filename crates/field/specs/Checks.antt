@@ -1,5 +1,5 @@
 -- Checks 1 and 2, of a modulus, and what a field made from it is.
-use mathlib.Core.Path.{_≡_}
+use mathlib.Core.Path.{_≡_, refl}
 use mathlib.Core.Logic.{_⊎_, inl, inr}
 use mathlib.Core.List.{[], _∷_}
 use Prim.Native.Nat.{ℕ, _^_, _≤_, _<_}
@@ -9,6 +9,7 @@ use lib.Pow.{pow-mono}
 use Rattle.lists.specs.Answers.{Checks, Passes}
 use Rattle.field.specs.Binary.{degree, Irreducible}
 use Rattle.field.specs.Decide.{irreducible-stable}
+use Rattle.field.specs.Degree.{degree-right, degree-above, degree-below}
 use Rattle.field.specs.Division.{degree-high}
 use Rattle.field.specs.Products.{Sized}
 use Rattle.field.specs.declared.Field.{Field}
@@ -23,6 +24,9 @@ pub in-range : {m : ℕ} → 8 ≤ m → m < 131072 → OutOfRange m → ⊥
 in-range {m} l h (inl a) = omega arith
 in-range {m} l h (inr a) = omega arith
 
+pub not-less : {x y : ℕ} → (x < y → ⊥) → y ≤ x
+not-less {x} {y} f = omega (arith, f)
+
 -- what a modulus that passes is
 pub record GoodModulus (m : ℕ) : Type 0 where
   pub low : 8 ≤ m
@@ -34,9 +38,15 @@ modulus-passed m (inl a) = absurd (omega arith)
 modulus-passed m (inr (out, inl a)) = absurd (omega arith)
 modulus-passed m (inr (out, inr a)) =
     record { low = not-less (λ h. out (inl h)); high = omega (arith, not-less (λ h. out (inr h))); irreducible = irreducible-stable m (a .0) }
-  where
-    not-less : {x y : ℕ} → (x < y → ⊥) → y ≤ x
-    not-less {x} {y} f = omega (arith, f)
+
+-- its degree is 3 to 16
+pub degree-range : (m : ℕ) → GoodModulus m → (3 ≤ degree m) × (degree m ≤ 16)
+degree-range m g =
+    let d = degree-right m (omega (arith, g .low)) in
+    (degree-above 3 d (g .low), omega (arith, degree-below 17 d (g .high)))
+
+pub good-passes : (m : ℕ) → GoodModulus m → Passes (modulusChecks m)
+good-passes m g = inr (in-range (g .low) (g .high), inr ((λ f. f (g .irreducible)), refl))
 
 -- f is the field of the modulus m, whose degree is 3 to 16
 pub record FieldOf (m : ℕ) (f : Field) : Type 0 where

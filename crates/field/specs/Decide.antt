@@ -2,7 +2,7 @@
 use mathlib.Core.Path.{_≡_, refl, sym, ap, _∙_, subst}
 use mathlib.Core.Logic.{_⊎_, inl, inr, ⊎-elim, _↔_}
 use mathlib.Core.Bool.{Bool, true, false, not}
-use Prim.Native.Nat.{ℕ, zero, suc, _+_, _-_, _/_, _^_, _≤_, _<_}
+use Prim.Native.Nat.{ℕ, zero, suc, _+_, _-_, _*_, _/_, _%_, _^_, _≤_, _<_}
 use native.Mathlib.Nat.{le-refl, lt-of-lt-of-le, eq-zero-or-pos, eq-or-lt-of-le}
 use native.Mathlib.Omega.{arith}
 use lib.Dec.{T, leb, eqb, leb→le, le→leb, eqb→eq, eqb-refl, T-not, not-T}
@@ -10,9 +10,9 @@ use lib.Pow.{pow-mono}
 use mir.Facts.{and-yes, yes-and}
 use Rattle.field.specs.Binary.{_⊕_, clmul, degree, rem, Irreducible, all-below, divides?, no-low-factor?, irreducible?}
 use Rattle.field.specs.Xor.{xor-zero-right}
-use Rattle.field.specs.Clmul.{clmul-zero-left, clmul-zero-right, clmul-comm}
-use Rattle.field.specs.Degree.{HasDegree, degree-right, degree-positive, degree-unique, clmul-degree}
-use Rattle.field.specs.Rem.{le-or-lt, rem-multiple, divide}
+use Rattle.field.specs.Clmul.{clmul-zero-left, clmul-zero-right, clmul-two-right, clmul-double-right, clmul-comm}
+use Rattle.field.specs.Degree.{HasDegree, degree-right, degree-positive, degree-above, degree-unique, clmul-degree}
+use Rattle.field.specs.Rem.{le-or-lt, rem-multiple, rem-unique, divide}
 use Rattle.field.specs.Product.{no-divisor, positive}
 
 -- ---- tests
@@ -125,3 +125,42 @@ irreducible-of-trials m h fails =
 
 pub reducible-of-factor : (m f : ℕ) → 1 < f → f < 2 ^ (degree m / 2 + 1) → rem f m ≡ 0 → Irreducible m → ⊥
 reducible-of-factor m f h b e irr = tried m (test-of-irreducible m irr) f h b e
+
+-- ---- x as a divisor
+
+-- where a multiple of x divides m, so does x
+pub even-divisor : (f m : ℕ) → 0 < f → f % 2 ≡ 0 → rem f m ≡ 0 → m % 2 ≡ 0
+even-divisor f m p h e =
+    let d = divide f p m in
+    let half : f ≡ f / 2 * 2 = omega arith in
+    let whole : m ≡ clmul (d .0) (f / 2) * 2 =
+    d .1 ∙ ap (λ (r : ℕ). clmul (d .0) f ⊕ r) e ∙ xor-zero-right (clmul (d .0) f) ∙ ap (clmul (d .0)) half ∙ clmul-double-right (d .0) (f / 2) in
+    omega arith
+
+-- no f from 2 below d divides m
+abbrev pub NoneBelow : ℕ → ℕ → Type 0
+NoneBelow m d = (f : ℕ) → f < d → 1 < f → ¬ (rem f m ≡ 0)
+
+pub none-below-three : (m : ℕ) → (m % 2 ≡ 0 → ⊥) → NoneBelow m 3
+none-below-three m odd f h l e = odd (even-divisor f m (omega arith) (omega arith) e)
+
+-- d and the even number after it
+pub none-below-more : (m d : ℕ) → (m % 2 ≡ 0 → ⊥) → d % 2 ≡ 1 → NoneBelow m d → ¬ (rem d m ≡ 0) → NoneBelow m (d + 2)
+none-below-more m d odd p none n f h l e = go (le-or-lt d f)
+  where
+    go : (d ≤ f) ⊎ (f < d) → ⊥
+    go (inl a) = last (eq-or-lt-of-le a)
+      where
+        last : (d ≡ f) ⊎ (d < f) → ⊥
+        last (inl s) = n (ap (λ (x : ℕ). rem x m) s ∙ e)
+        last (inr b) = odd (even-divisor f m (omega arith) (omega arith) e)
+    go (inr a) = none f a l e
+
+pub even-reducible : (m : ℕ) → 8 ≤ m → m % 2 ≡ 0 → Irreducible m → ⊥
+unfolding degree
+even-reducible m h e =
+    let deg : 3 ≤ degree m = degree-above 3 (degree-right m (omega arith)) (omega arith) in
+    reducible-of-factor m 2 (omega arith) (lt-of-lt-of-le (omega arith) (pow-mono {i = 2} (omega arith))) (rem-unique 2 (omega arith) m (m / 2) whole (omega arith))
+  where
+    whole : m ≡ clmul (m / 2) 2 ⊕ 0
+    whole = sym (xor-zero-right (clmul (m / 2) 2) ∙ clmul-two-right (m / 2) ∙ omega arith)

@@ -13,3 +13,5 @@ pub mod Division
 pub mod Checks
 pub mod Ranges
 pub mod Euclid
+pub mod Calls
+pub mod Cases

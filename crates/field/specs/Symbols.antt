@@ -43,6 +43,16 @@ module _ (m x : ℕ) where
       by false (no z) ih = omega (arith, ih (omega arith))
 
 module _ (m : ℕ) (irr : Irreducible m) where
+  inverse-below-zero : (n : ℕ) → inverse-below m 0 n ≡ 0
+  unfolding inverse-below
+  inverse-below-zero zero = refl
+  inverse-below-zero (suc n) = ap (λ (x : ℕ). cond (eqb x 1) n (inverse-below m 0 n)) (product-zero-left m (positive m irr) n) ∙ inverse-below-zero n
+
+  -- 0 has none
+  pub inverse-zero : inverse m 0 ≡ 0
+  unfolding inverse
+  inverse-zero = inverse-below-zero (2 ^ degree m)
+
   inverse-less : (x : ℕ) → inverse m x < 2 ^ degree m
   unfolding inverse
   inverse-less x = inverse-below-less m x (2 ^ degree m) (pow-pos (degree m))

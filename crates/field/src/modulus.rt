@@ -12,19 +12,22 @@ ghost use Rattle.field.specs.Products.{Sized};
 ghost use Rattle.field.specs.Checks.{modulusChecks, FieldOf};
 ghost use Rattle.field.specs.Ranges.{Largest};
 
-// Whether no polynomial of degree 1 to l/2 divides m.
+// Whether no polynomial of degree 1 to l/2 divides m. Where x does not, no multiple of x does.
 fn irreducible(m: u32) -> bool
     requires { ⌜ (8 ≤ m) × (m < 131072) ⌝ }
     ensures { λ r. ⌜ Decides r (Irreducible m) ⌝ }
 {
+    if m % 2 == 0 {
+        return false;
+    }
     let end: u32 = 2 << (degree_of(m) / 2);
-    let mut d: u32 = 2;
+    let mut d: u32 = 3;
     while d < end {
         let t = divide(m, d);
         if t.remainder == 0 {
             return false;
         }
-        d += 1;
+        d += 2;
     }
     true
 }
@@ -34,10 +37,7 @@ fn irreducible(m: u32) -> bool
 pub fn modulus_refusal(m: u32) -> u8
     ensures { λ r. ⌜ Answers (modulusChecks m) r ⌝ }
 {
-    if m < 8 {
-        return 1;
-    }
-    if 131071 < m {
+    if m < 8 || 131071 < m {
         return 1;
     }
     if irreducible(m) {

@@ -3,6 +3,7 @@ use mathlib.Core.Path.{_≡_, refl, sym, ap, _∙_, subst, subst⁻¹}
 use mathlib.Core.List.{List, [], _∷_, _++_, map, zipWith}
 use Prim.Native.Nat.{ℕ, zero, suc, _+_, _-_, _≤_, _<_}
 use native.Mathlib.Nat.{zero-add, suc-add}
+use native.Mathlib.Decide.{decLt}
 use native.Mathlib.Omega.{arith}
 use lib.ListN.{length, getD, replicate, take, drop, take-append-drop}
 use lib.Seq.{take-nil, drop-drop}
@@ -83,6 +84,15 @@ pub All-drop-take : (P : ℕ → Type 0) (a b : ℕ) (xs : List ℕ) → a ≤ b
 All-drop-take P a b xs h z =
     subst (λ (k : ℕ). All P (drop a (take k xs))) {x = a + (b - a)} {y = b} (omega arith)
     (subst⁻¹ (All P) (drop-take a (b - a) xs) (All-take P (b - a) (drop a xs) z))
+
+-- a bound on every entry is decided entry by entry, so it holds where it cannot fail
+pub below-stable : (n : ℕ) (xs : List ℕ) → ((Below n xs → ⊥) → ⊥) → Below n xs
+below-stable n [] f = tt
+below-stable n (x ∷ xs) f = (by (decLt x n), below-stable n xs (λ g. f (λ h. g (h .1))))
+  where
+    by : Dec (x < n) → x < n
+    by (yes h) = h
+    by (no k) = absurd (f (λ h. k (h .0)))
 
 -- every entry of zeros, and past the end the default
 pub zeros-at : (n p : ℕ) → getD (replicate {A = ℕ} n 0) p 0 ≡ 0

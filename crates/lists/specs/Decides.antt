@@ -9,7 +9,7 @@ use native.Mathlib.Omega.{arith}
 abbrev pub Decides : Bool → Type 0 → Type 0
 Decides r P = ((r ≡ true) × P) ⊎ ((r ≡ false) × (P → ⊥))
 
-true-not-false : {r : Bool} → r ≡ true → r ≡ false → ⊥
+pub true-not-false : {r : Bool} → r ≡ true → r ≡ false → ⊥
 true-not-false t f = let z : _≡_ {A = ℕ} 0 1 = cc in omega arith
 
 module _ {r : Bool} (P : Type 0) where

@@ -44,6 +44,11 @@ filled-next {a} {n} {f} {old} {new} x h e s =
     wider p (inl k) = inl k
     wider p (inr k) = inr (omega arith)
 
+-- the same from the front
+pub filled-front : {n : ℕ} {f : ℕ → ℕ} {old new : List ℕ} (x : ℕ) → n < length old → x ≡ f n → Filled 0 n f old new → Filled 0 (n + 1) f old (set new n x)
+filled-front {n} {f} {old} {new} x h e s =
+    let start : 0 + n ≡ n = omega arith in subst (λ (k : ℕ). Filled 0 (n + 1) f old (set new k x)) start (filled-next x (omega arith) e s)
+
 -- a list that is filled whole
 pub filled-all : {n : ℕ} {f : ℕ → ℕ} {old new : List ℕ} → length old ≡ n → Filled 0 n f old new → new ≡ tab n f
 filled-all {n} {f} {old} {new} e s =
@@ -65,6 +70,15 @@ filled-each P {a} {n} {f} {old} {new} ho hf s = All-of P new 0 (λ p h. at p (om
     at p h (no l) (yes g) =
         let place : a + (p - a) ≡ p = omega arith in
         subst P (sym (s .inside (p - a) (omega arith)) ∙ ap (λ (i : ℕ). getD new i 0) place) (hf (p - a) (omega arith))
+
+-- the part that is filled
+pub filled-take : {n : ℕ} {f : ℕ → ℕ} {old new : List ℕ} → n ≤ length old → Filled 0 n f old new → take n new ≡ tab n f
+filled-take {n} {f} {old} {new} h s =
+    let long : length (take n new) ≡ n = length-take-le n new (omega (arith, s .kept)) in
+    ext-getD 0 (take n new) (tab n f) (long ∙ sym (length-tab n f))
+    (λ i k. let l : i < n = omega (arith, long) in
+    let start : 0 + i ≡ i = omega arith in
+    getD-take n new i 0 l ∙ ap (λ (j : ℕ). getD new j 0) (sym start) ∙ s .inside i l ∙ sym (getD-tab n f i 0 l))
 
 -- a part that was lent and written
 pub put-filled : (a k : ℕ) (xs ys : List ℕ) → a + k ≤ length xs → length ys ≡ k → Filled a k (λ i. getD ys i 0) xs (putMid a k xs ys)

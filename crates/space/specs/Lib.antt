@@ -1,3 +1,7 @@
--- The checked setting, and the values of the subspace polynomials.
+-- The checked setting, the table of a space, and the values of the subspace polynomials.
 pub mod Images
+pub mod Ready
+pub mod Setting
+pub mod Sound
+pub mod Table
 pub mod Values

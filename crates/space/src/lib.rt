@@ -2,4 +2,199 @@
 //
 // W_j(x) is the product of x - a over a in the span of the first j basis elements. The normalised
 // image of number j of x is W_j(x) / W_j(b_(j+1)); it is additive in x.
+pub mod elements;
 pub mod values;
+
+use field::Field;
+ghost use mathlib.Core.Path.{_≡_};
+ghost use Prim.Native.Nat.{_<_, _≤_, _^_};
+ghost use lib.ListN.{length};
+ghost use Rattle.lists.specs.All.{Below};
+ghost use Rattle.field.specs.Binary.{degree, Irreducible};
+ghost use Rattle.field.specs.Products.{Sized};
+ghost use Rattle.field.specs.Checks.{modulusChecks};
+ghost use Rattle.lists.specs.Answers.{Answers};
+ghost use mathlib.Core.List.{_++_};
+ghost use Rattle.space.specs.Setting.{Tabled, noTables, noSetting, paddedOf, basisChecks, Made, Settled};
+
+// The largest dimension.
+pub const MAX: usize = 12;
+
+// The dimension, and the normalised image of number j of b_(i+1) at 16 * i + j.
+pub struct Space {
+    pub k: usize,
+    pub images: [u16; 192],
+}
+
+// The basis, the steps W_j(b_(j+1)) and their inverses, each with zeros past the dimension.
+pub struct Setting {
+    pub field: Field,
+    pub space: Space,
+    pub basis: [u16; 16],
+    pub steps: [u16; 16],
+    pub inverses: [u16; 16],
+}
+
+// A refusal's number and no setting, or 0 and the setting.
+pub struct Checked {
+    pub refusal: u8,
+    pub setting: Setting,
+}
+
+// The images, steps and inverses of a basis, or zeros where it is dependent.
+pub struct Tables {
+    pub independent: bool,
+    pub images: [u16; 192],
+    pub steps: [u16; 16],
+    pub inverses: [u16; 16],
+}
+
+fn no_tables() -> Tables
+    ensures { λ r. ⌜ r ≡ noTables ⌝ }
+{
+    Tables {
+        independent: false,
+        images: [0u16; 192],
+        steps: [0u16; 16],
+        inverses: [0u16; 16],
+    }
+}
+
+// The tables of a basis. It is dependent exactly when a step is 0.
+fn tabulate(f: Field, basis: &[u16]) -> Tables
+    requires { ⌜ Sized f × Irreducible (f .modulus) × (length (now basis) ≤ 12) × Below (2 ^ degree (f .modulus)) (now basis) ⌝ }
+    ensures { λ r. ⌜ Tabled (f .modulus) (now (basis .entry)) r ⌝ }
+{
+    let none = no_tables();
+    let mut images = none.images;
+    let mut steps = none.steps;
+    let mut inverses = none.inverses;
+    let mut i = 0;
+    while i < basis.len() {
+        let s = values::fill_row(f, i, basis[i], &steps, &inverses, &mut images);
+        if s == 0 {
+            return none;
+        }
+        steps[i] = s;
+        inverses[i] = field::inverse::inverse(f, s);
+        images[17 * i] = 1;
+        i += 1;
+    }
+    Tables {
+        independent: true,
+        images,
+        steps,
+        inverses,
+    }
+}
+
+fn no_setting() -> Setting
+    ensures { λ r. ⌜ r ≡ noSetting ⌝ }
+{
+    Setting {
+        field: Field {
+            modulus: 0,
+            degree: 0,
+        },
+        space: Space {
+            k: 0,
+            images: [0u16; 192],
+        },
+        basis: [0u16; 16],
+        steps: [0u16; 16],
+        inverses: [0u16; 16],
+    }
+}
+
+fn refused(number: u8) -> Checked
+    ensures { λ r. ⌜ (r .refusal ≡ number) × (r .setting ≡ noSetting) ⌝ }
+{
+    Checked {
+        refusal: number,
+        setting: no_setting(),
+    }
+}
+
+// The basis, with zeros past its end.
+fn padded(basis: &[u16]) -> [u16; 16]
+    requires { ⌜ length (now basis) ≤ 12 ⌝ }
+    ensures { λ r. ⌜ r ≡ paddedOf (now (basis .entry)) ⌝ }
+{
+    let mut out = [0u16; 16];
+    let mut i = 0;
+    while i < basis.len() {
+        out[i] = basis[i];
+        i += 1;
+    }
+    out
+}
+
+// Checks 3 and 4 of a basis.
+fn basis_refusal(f: Field, basis: &[u16]) -> u8
+    requires { ⌜ Sized f ⌝ }
+    ensures { λ r. ⌜ Answers (basisChecks (f .modulus) (now (basis .entry))) r ⌝ }
+{
+    if basis.len() < 3 {
+        return 3;
+    }
+    if MAX < basis.len() {
+        return 3;
+    }
+    if field::modulus::all_symbols(f, basis) {
+        return 0;
+    }
+    4
+}
+
+// Checks 1 to 4 of a setting.
+fn refusal(modulus: u32, basis: &[u16]) -> u8
+    ensures { λ r. ⌜ Answers (modulusChecks modulus ++ basisChecks modulus (now (basis .entry))) r ⌝ }
+{
+    let n = field::modulus::modulus_refusal(modulus);
+    if n == 0 {
+        return basis_refusal(field::modulus::field_of(modulus), basis);
+    }
+    n
+}
+
+// The setting of a basis that passed checks 1 to 4: check 5.
+fn settle(f: Field, basis: &[u16]) -> Checked
+    requires { ⌜ Sized f × Irreducible (f .modulus) × (length (now basis) ≤ 12) × Below (2 ^ degree (f .modulus)) (now basis) ⌝ }
+    ensures { λ r. ⌜ Made (f .modulus) (now (basis .entry)) r ⌝ }
+{
+    let t = tabulate(f, basis);
+    let independent = t.independent;
+    let images = t.images;
+    let steps = t.steps;
+    let inverses = t.inverses;
+    if independent {
+        return Checked {
+            refusal: 0,
+            setting: Setting {
+                field: f,
+                space: Space {
+                    k: basis.len(),
+                    images,
+                },
+                basis: padded(basis),
+                steps,
+                inverses,
+            },
+        };
+    }
+    refused(5)
+}
+
+// A setting by its modulus and its basis: checks 1 to 5, then the setting.
+//
+// Ruled out: a dependent basis that is answered with a setting, since no setting has a step 0; a
+// number other than the first check's that refuses, as 2 for a modulus that check 1 refuses.
+pub fn check(modulus: u32, basis: &[u16]) -> Checked
+    ensures { λ r. ⌜ Settled modulus (now (basis .entry)) r ⌝ }
+{
+    let n = refusal(modulus, basis);
+    if n == 0 {
+        return settle(field::modulus::field_of(modulus), basis);
+    }
+    refused(n)
+}

@@ -1,0 +1,89 @@
+// The table of a line's space, from that of the space. No product of the field is needed.
+use super::Line;
+ghost use mathlib.Core.Path.{_≡_};
+ghost use Prim.Native.Nat.{_+_, _≤_, _<_};
+ghost use lib.ListN.{length};
+ghost use Rattle.space.specs.Setting.{maxDim};
+ghost use Rattle.proximity.specs.LineImages.{addedRow, elementImages, rowImages, columnImages, LineTable};
+
+// x with row i of the table added.
+fn with_row(images: &[u16; 192], i: usize, x: [u16; 16]) -> [u16; 16]
+    requires { ⌜ i < maxDim ⌝ }
+    ensures { λ r. ⌜ r ≡ addedRow (now (images .entry)) i x ⌝ }
+{
+    let mut out = x;
+    let mut j = 0;
+    while j < 16 {
+        let y = images[16 * i + j];
+        out[j] ^= y;
+        j += 1;
+    }
+    out
+}
+
+// The images of the element at the one bits of r, from basis element h on, of c basis elements.
+pub fn element_images(images: &[u16; 192], h: usize, c: usize, r: usize) -> [u16; 16]
+    requires { ⌜ h + c ≤ maxDim ⌝ }
+    ensures { λ x. ⌜ x ≡ elementImages h c (now (images .entry)) r ⌝ }
+{
+    let mut x = [0u16; 16];
+    let mut rest = r;
+    let mut i = 0;
+    while i < c {
+        if rest % 2 == 1 {
+            let y = with_row(images, h + i, x);
+            x = y;
+        }
+        rest /= 2;
+        i += 1;
+    }
+    x
+}
+
+// The table of row r.
+pub fn row_images(images: &[u16; 192], k: usize, r: usize) -> [u16; 192]
+    requires { ⌜ (7 ≤ k) × (k ≤ maxDim) × (length (now images) ≡ 192) ⌝ }
+    ensures { λ t. ⌜ t ≡ rowImages k (now (images .entry)) r ⌝ }
+{
+    let h = k / 2;
+    let mut t = *images;
+    if r < 4 {
+        return t;
+    }
+    let x = element_images(images, h, k - h, r);
+    let mut j = 0;
+    while j < 16 {
+        t[16 * (h + 2) + j] = x[j];
+        j += 1;
+    }
+    t
+}
+
+// The table of each column: both indices shifted by h.
+pub fn column_images(images: &[u16; 192], k: usize) -> [u16; 192]
+    requires { ⌜ (7 ≤ k) × (k ≤ maxDim) × (length (now images) ≡ 192) ⌝ }
+    ensures { λ t. ⌜ t ≡ columnImages k (now (images .entry)) ⌝ }
+{
+    let shift = 17 * (k / 2);
+    let mut t = [0u16; 192];
+    let mut p = 0;
+    while p + shift < 192 {
+        t[p] = images[p + shift];
+        p += 1;
+    }
+    t
+}
+
+// The table of a line.
+//
+// Ruled out: the table of the space for each row, since a row from 4 on has another last basis
+// element; columns over b_(h+1).. in place of their images, since both indices are shifted.
+pub fn line_images(images: &[u16; 192], k: usize, line: Line) -> [u16; 192]
+    requires { ⌜ (7 ≤ k) × (k ≤ maxDim) × (length (now images) ≡ 192) ⌝ }
+    ensures { λ t. ⌜ LineTable k (now (images .entry)) line t ⌝ }
+{
+    match line {
+        Line::Row(r) => row_images(images, k, r),
+        Line::Column(_) => column_images(images, k),
+    }
+}

@@ -1,0 +1,35 @@
+-- `space::basis_refusal` meets its contract. Assumes nothing.
+use mathlib.Core.Path.{refl}
+use mathlib.Core.Logic.{_⊎_, inl, inr}
+use Prim.Native.Nat.{ℕ, _≤_, _<_}
+use native.Mathlib.Omega.{arith}
+use Rattle.lists.specs.Decides.{decides-true, decides-false}
+use borrow.Author.Needs.{needs}
+use Rattle.space.proofs.basis_refusal.Statement.{statement}
+use Rattle.space.proofs.basis_refusal.Tie as tie
+
+returns : tie.Need-returns
+returns c = inl (inl (c .if1 .taken), refl)
+
+returns-2 : tie.Need-returns-2
+returns-2 c = inl (inr (c .if2 .taken), refl)
+
+all-symbols-requires : tie.Need-all-symbols-requires
+all-symbols-requires c κs = search needs
+
+within : {n : ℕ} → 3 ≤ n → n ≤ 12 → (n < 3) ⊎ (12 < n) → ⊥
+within {n} l h (inl a) = omega arith
+within {n} l h (inr a) = omega arith
+
+returns-3 : tie.Need-returns-3
+returns-3 c =
+    let n = c .before .before .before .before .before in
+    inr (within (omega arith) (omega arith), inr ((λ no. no (decides-true _ (c .before .all-symbols .ensures) (c .if3 .taken))), refl))
+
+returns-4 : tie.Need-returns-4
+returns-4 c =
+    inr (within (omega arith) (omega arith), inl (decides-false _ (c .before .all-symbols .ensures) (c .if3 .left), refl))
+
+pub basis-refusal-spec : {M : Type 1} → statement M
+basis-refusal-spec =
+    tie.close (tie.spec returns returns-2 all-symbols-requires returns-3 returns-4)

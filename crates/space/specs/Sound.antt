@@ -1,0 +1,87 @@
+-- A setting is sound when it passes checks 1 to 5: what that says. Assumes nothing.
+use mathlib.Core.Path.{_≡_, refl}
+use mathlib.Core.Logic.{_⊎_, inl, inr, _↔_}
+use mathlib.Core.List.{List, [], _∷_, _++_}
+use Prim.Native.Nat.{ℕ, _^_, _≤_, _<_}
+use native.Mathlib.Decide.{ℕ-discrete}
+use native.Mathlib.Omega.{arith}
+use lib.ListN.{length}
+use Rattle.lists.specs.All.{Below, below-stable}
+use Rattle.lists.specs.Answers.{Answers, Passes, Numbered, answers-after, passes-each}
+use Rattle.field.specs.Binary.{degree}
+use Rattle.field.specs.Calls.{modulus-numbered}
+use Rattle.field.specs.Checks.{modulusChecks, GoodModulus, modulus-passed, good-passes}
+use Rattle.field.specs.Laws.{Ops, IsField}
+use Rattle.field.specs.Symbols.{symbols, symbols-field}
+use Rattle.poly.specs.Codeword.{Basis}
+use Rattle.poly.specs.Span.{Independent, elem}
+use Rattle.space.specs.Setting.{maxDim, basisChecks, spanChecks, settingChecks}
+
+pub record Sound (m : ℕ) (bs : List ℕ) : Type 0 where
+  pub modulus : GoodModulus m
+  pub low : 3 ≤ length bs
+  pub high : length bs ≤ maxDim
+  pub basis : Basis (symbols m) (length bs) bs
+
+-- what checks 1 to 4 say
+pub record Bounded (m : ℕ) (bs : List ℕ) : Type 0 where
+  pub modulus : GoodModulus m
+  pub low : 3 ≤ length bs
+  pub high : length bs ≤ maxDim
+  pub elements : Below (2 ^ degree m) bs
+
+basis-numbered : (m : ℕ) (bs : List ℕ) → Numbered (basisChecks m bs)
+basis-numbered m bs = (omega arith, (omega arith, tt))
+
+pub four-numbered : (m : ℕ) (bs : List ℕ) → Numbered (modulusChecks m ++ basisChecks m bs)
+four-numbered m bs = (omega arith, (omega arith, (omega arith, (omega arith, tt))))
+
+pub setting-numbered : (m : ℕ) (bs : List ℕ) → Numbered (settingChecks m bs)
+setting-numbered m bs = (omega arith, (omega arith, (omega arith, (omega arith, (omega arith, tt)))))
+
+outside : {n : ℕ} → 3 ≤ n → n ≤ maxDim → (n < 3) ⊎ (maxDim < n) → ⊥
+outside {n} l h (inl a) = omega arith
+outside {n} l h (inr a) = omega arith
+
+pub bounded : (m : ℕ) (bs : List ℕ) → Passes (modulusChecks m ++ basisChecks m bs) → Bounded m bs
+bounded m bs p = go (passes-each (modulusChecks m) (basisChecks m bs) (modulus-numbered m) p)
+  where
+    go : Passes (modulusChecks m) × Passes (basisChecks m bs) → Bounded m bs
+    go (q, inl a) = absurd (omega arith)
+    go (q, inr (a, inl b)) = absurd (omega arith)
+    go (q, inr (a, inr b)) =
+        record { modulus = modulus-passed m q; low = at-least (λ h. a (inl h)); high = at-least (λ h. a (inr h)); elements = below-stable (2 ^ degree m) bs (b .0) }
+      where
+        at-least : {x y : ℕ} → (x < y → ⊥) → y ≤ x
+        at-least {x} {y} f = omega (arith, f)
+
+module _ (m : ℕ) (bs : List ℕ) where
+  independent-stable : ((Independent (symbols m) bs → ⊥) → ⊥) → Independent (symbols m) bs
+  independent-stable f i h e = by (ℕ-discrete i 0)
+    where
+      by : Dec (i ≡ 0) → i ≡ 0
+      by (yes z) = z
+      by (no n) = absurd (f (λ ind. n (ind i h e)))
+
+  pub sound : Passes (settingChecks m bs) → Sound m bs
+  sound p = go (passes-each (modulusChecks m ++ basisChecks m bs) (spanChecks m bs) (four-numbered m bs) p)
+    where
+      go : Passes (modulusChecks m ++ basisChecks m bs) × Passes (spanChecks m bs) → Sound m bs
+      go (q, inl a) = absurd (omega arith)
+      go (q, inr a) =
+          let b = bounded m bs q in
+          record { modulus = b .modulus; low = b .low; high = b .high; basis = record { count = refl; elements = b .elements; independent = independent-stable (a .0) } }
+
+  pub sound-passes : Sound m bs → Passes (settingChecks m bs)
+  sound-passes s =
+      answers-after (modulusChecks m ++ basisChecks m bs) (spanChecks m bs) 0 (four-numbered m bs)
+      (answers-after (modulusChecks m) (basisChecks m bs) 0 (modulus-numbered m) (good-passes m (s .modulus))
+      (inr (outside (s .low) (s .high), inr ((λ f. f (s .basis .elements)), refl))))
+      (inr ((λ f. f (s .basis .independent)), refl))
+
+  pub sound-iff : Passes (settingChecks m bs) ↔ Sound m bs
+  sound-iff = (sound, sound-passes)
+
+-- the field of a sound setting
+pub sound-field : {m : ℕ} {bs : List ℕ} → Sound m bs → IsField (symbols m)
+sound-field {m} s = symbols-field m (s .modulus .irreducible)

@@ -1,0 +1,4 @@
+-- What the checker answers.
+pub mod Checker
+pub mod OnCoin
+pub mod Parts
