@@ -1,0 +1,6 @@
+-- The stored file: its bytes, its records, and what a reader answers.
+pub mod Bytes
+pub mod File
+pub mod Reader
+pub mod Passed
+pub mod Accepted
