@@ -4,3 +4,6 @@ pub mod File
 pub mod Reader
 pub mod Passed
 pub mod Accepted
+pub mod ByteLaws
+pub mod Whole
+pub mod Written
