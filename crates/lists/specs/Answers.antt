@@ -53,3 +53,7 @@ pub passes-each : (cs ds : Checks) → Numbered cs → Passes (cs ++ ds) → Pas
 passes-each [] ds k p = (refl, p)
 passes-each ((n, P) ∷ cs) ds k (inl p) = absurd (omega arith)
 passes-each ((n, P) ∷ cs) ds k (inr p) = let rest = passes-each cs ds (k .1) (p .1) in (inr (p .0, rest .0), rest .1)
+
+pub numbered-append : (cs ds : Checks) → Numbered cs → Numbered ds → Numbered (cs ++ ds)
+numbered-append [] ds h k = k
+numbered-append ((n, P) ∷ cs) ds h k = (h .0, numbered-append cs ds (h .1) k)

@@ -35,10 +35,19 @@ unfolding irreducible?
 irreducible-283 = irreducible-of-test 283 tt
 
 -- q(x) = x^4 + 7x^2 + 6x, coefficients lowest first, and q(4) = 115
-pub q-283 : (x : ℕ) → x < 256 → vanish (symbols 283) (1 ∷ 2 ∷ []) x ≡ eval (symbols 283) (0 ∷ 6 ∷ 7 ∷ 0 ∷ 1 ∷ []) x
+q-283 : (x : ℕ) → x < 256 → vanish (symbols 283) (1 ∷ 2 ∷ []) x ≡ eval (symbols 283) (0 ∷ 6 ∷ 7 ∷ 0 ∷ 1 ∷ []) x
 unfolding degree product _⊕_
 q-283 x h = two-elements (symbols-field 283 irreducible-283) 1 2 x h
 
-pub q-283-at-4 : vanish (symbols 283) (1 ∷ 2 ∷ []) 4 ≡ 115
+q-283-at-4 : vanish (symbols 283) (1 ∷ 2 ∷ []) 4 ≡ 115
 unfolding vanish product _⊕_
 q-283-at-4 = refl
+
+-- modulus 283, span of 1, 2
+abbrev pub P4 : Type 0
+P4 =
+    ((x : ℕ) → x < 256 → vanish (symbols 283) (1 ∷ 2 ∷ []) x ≡ eval (symbols 283) (0 ∷ 6 ∷ 7 ∷ 0 ∷ 1 ∷ []) x)
+    × (vanish (symbols 283) (1 ∷ 2 ∷ []) 4 ≡ 115)
+
+pub p4 : P4
+p4 = (q-283, q-283-at-4)

@@ -2,3 +2,4 @@
 pub mod Checker
 pub mod OnCoin
 pub mod Parts
+pub mod Verdicts

@@ -2,6 +2,7 @@
 pub mod blocks;
 pub mod gather;
 pub mod parts;
+
 use field::modulus;
 use proximity::tables;
 use space::Space;
@@ -36,3 +37,31 @@ fn delivery_refusal(k: usize, word: usize, proof: usize, coin: u64) -> u8
     0
 }
 
+// The checker for one coin: checks 1 to 6, 8, and 9 of the symbols that the coin reads; then the
+// verdict, with the number of symbols read. It writes nothing.
+//
+// Ruled out: accept for a pair whose row or column at this coin is no codeword, as a checker would
+// say that waves columns through; 9 for a symbol that the coin does not read.
+pub fn check<'a>(
+    modulus: u32,
+    basis: &[u16],
+    word: &'a [u16],
+    proof: &'a [u16],
+    coin: u64,
+) -> Verdict
+    ensures { λ v. ⌜ Told modulus (now (basis .entry)) (now (word .entry)) (now (proof .entry)) coin v ⌝ }
+{
+    let checked = space::check(modulus, basis);
+    let n = checked.refusal;
+    if n != 0 {
+        return Verdict::Refused(n);
+    }
+    let k = basis.len();
+    let n = delivery_refusal(k, word.len(), proof.len(), coin);
+    if n != 0 {
+        return Verdict::Refused(n);
+    }
+    let f = checked.setting.field;
+    let images = checked.setting.space.images;
+    parts::check_word(f, k, &images, word, proof, coin)
+}

@@ -20,6 +20,20 @@ ghost use Rattle.verifier.specs.Checker.{OnCoin};
 ghost use Rattle.verifier.specs.OnCoin.{By};
 ghost use Rattle.verifier.specs.Parts.{InSpace, Lent, joined, noSymbols};
 
+// The verdict on a short word that is given in lanes: all its symbols are read.
+fn short_verdict(f: Field, k: usize, images: &[u16; 192], read: [u16; 64]) -> Verdict
+    requires { ⌜ InSpace f k (now images) × (k ≤ 6) × (length read ≡ 64) ⌝ }
+    ensures { λ v. ⌜ ((b w : List ℕ) → Basis (symbols (f .modulus)) k b → Images (symbols (f .modulus)) b (now (images .entry)) → length w ≡ 2 ^ k → Transposed 8 (2 ^ (k - 3)) w noSymbols read → By (symbols (f .modulus)) w (2 ^ k) (Codeword (symbols (f .modulus)) k b w) v) ⌝ }
+{
+    if modulus::all_symbols(f, &read) {
+        if transform::blocks::short_codeword(f, k, images, read) {
+            return Verdict::Accept(1usize << k);
+        }
+        return Verdict::Reject(1usize << k);
+    }
+    Verdict::Refused(9)
+}
+
 // The first of a word's eight blocks.
 fn first_block(word: &[u16]) -> &[u16]
     ensures { λ r. ⌜ now r ≡ take (length (now (word .entry)) / 8) (now (word .entry)) ⌝ }
@@ -36,3 +50,78 @@ fn other_blocks(word: &[u16]) -> &[u16]
     &word[n..]
 }
 
+// The check of a word in two parts and its proof, by the bits left of a coin: the same is done with
+// the row or column that the coin takes. The dimension falls each time.
+pub fn check_parts<'a>(
+    f: Field,
+    k: usize,
+    images: &[u16; 192],
+    near: &'a [u16],
+    far: &'a [u16],
+    slot: usize,
+    proof: &'a [u16],
+    coin: u64,
+) -> Verdict
+    requires { ⌜ InSpace f k (now images) × Lent k (now near) (now far) slot (now proof) ⌝ }
+    ensures { λ v. ⌜ ((b : List ℕ) → Basis (symbols (f .modulus)) k b → Images (symbols (f .modulus)) b (now (images .entry)) → OnCoin (symbols (f .modulus)) k b (joined (now (near .entry)) (now (far .entry)) slot) (now (proof .entry)) coin v) ⌝ }
+{
+    if k <= 6 {
+        return short_verdict(f, k, images, gather::gather(near, far, slot));
+    }
+    let rest = lines::rest_of(k, coin);
+    let line = lines::line_of(k, coin);
+    let m = lines::line_dimension(k, line);
+    let t = spaces::line_images(images, k, line);
+    let inner = blocks::line_proof(proof, k, line);
+    match line {
+        Line::Row(r) => check_parts(
+            f,
+            m,
+            &t,
+            blocks::row_near(near, far, slot, k, r),
+            blocks::row_far(proof, k, r),
+            lines::slot(r),
+            inner,
+            rest,
+        ),
+        Line::Column(a) => {
+            let read = gather::column(near, far, slot, proof, k, a);
+            let n = lines::rows(k);
+            let whole = &read[..n];
+            check_parts(
+                f,
+                m,
+                &t,
+                first_block(whole),
+                other_blocks(whole),
+                0,
+                inner,
+                rest,
+            )
+        }
+    }
+}
+
+// The check of a plain word.
+pub fn check_word<'a>(
+    f: Field,
+    k: usize,
+    images: &[u16; 192],
+    word: &'a [u16],
+    proof: &'a [u16],
+    coin: u64,
+) -> Verdict
+    requires { ⌜ InSpace f k (now images) × (length (now word) ≡ 2 ^ k) × (length (now proof) ≡ S k) ⌝ }
+    ensures { λ v. ⌜ ((b : List ℕ) → Basis (symbols (f .modulus)) k b → Images (symbols (f .modulus)) b (now (images .entry)) → OnCoin (symbols (f .modulus)) k b (now (word .entry)) (now (proof .entry)) coin v) ⌝ }
+{
+    check_parts(
+        f,
+        k,
+        images,
+        first_block(word),
+        other_blocks(word),
+        0,
+        proof,
+        coin,
+    )
+}

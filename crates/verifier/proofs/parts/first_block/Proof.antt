@@ -9,7 +9,7 @@ use Rattle.verifier.proofs.parts.first_block.Statement.{statement}
 use Rattle.verifier.proofs.parts.first_block.Tie as tie
 
 slice-aggregate-result : tie.Need-slice-aggregate-result
-slice-aggregate-result c = ?
+slice-aggregate-result c = sym (length-take-le (length (c .before .args .word .now) / 8) (c .before .args .word .now) (omega arith))
 
 returns : tie.Need-returns
 returns c = search needs

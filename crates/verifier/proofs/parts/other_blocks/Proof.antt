@@ -20,7 +20,8 @@ part-result-end : tie.Need-part-result-end
 part-result-end c = search needs
 
 returns : tie.Need-returns
-returns c = ?
+returns c =
+    let w = c .before .args .word .now in take-all (length w - length w / 8) (drop (length w / 8) w) (omega (arith, length-drop (length w / 8) w))
 
 pub other-blocks-spec : {M : Type 1} → statement M
 other-blocks-spec =

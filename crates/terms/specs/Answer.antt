@@ -1,0 +1,51 @@
+-- The checker's answer: there is one, and it hangs on the symbols that the coin reads alone. Assumes nothing.
+use mathlib.Core.Path.{_≡_, refl, sym, ap, _∙_, subst, transport}
+use mathlib.Core.Logic.{_⊎_, inl, inr}
+use mathlib.Core.List.{List, [], _∷_, _++_, map}
+use Prim.Native.Nat.{ℕ, _^_, _≤_, _<_}
+use native.Mathlib.Omega.{arith}
+use lib.ListN.{length}
+use Rattle.lists.specs.All.{All}
+use Rattle.lists.specs.Answers.{Checks, Answers, Passes, Refuses, answers-one}
+use Rattle.field.specs.Symbols.{symbols}
+use Rattle.space.specs.Setting.{settingChecks}
+use Rattle.proximity.specs.Dim.{dim, S, R}
+use Rattle.proximity.specs.Reads.{same-reads}
+use Rattle.proximity.specs.Verifier.{Accepts, positions, readAt}
+use Rattle.verifier.specs.Checker.{symbolsAt, readsOf, deliveryChecks, readChecks, checkerChecks, Told}
+use Rattle.verifier.specs.declared.Verdict.{Verdict}
+use Rattle.verifier.specs.declared.Verdict.the-variants.{Accept, Reject, Refused}
+
+module _ (m : ℕ) (bs w π : List ℕ) (coin : ℕ) where
+  abbrev checks : Checks
+  checks = checkerChecks m bs w π coin
+
+  refused-not-passed : (n : ℕ) → Passes checks → Refuses checks n → ⊥
+  refused-not-passed n p (l, a) = let e : 0 ≡ n = answers-one checks p a in omega arith
+
+  -- one answer
+  pub told-one : (u v : Verdict) → Told m bs w π coin u → Told m bs w π coin v → u ≡ v
+  told-one (Accept a) (Accept b) (p, e, s) (q, f, t) = ap Accept (e ∙ sym f)
+  told-one (Accept a) (Reject b) (p, e, s) (q, f, t) = absurd (t s)
+  told-one (Accept a) (Refused b) (p, e, s) r = absurd (refused-not-passed b p r)
+  told-one (Reject a) (Accept b) (p, e, s) (q, f, t) = absurd (s t)
+  told-one (Reject a) (Reject b) (p, e, s) (q, f, t) = ap Reject (e ∙ sym f)
+  told-one (Reject a) (Refused b) (p, e, s) r = absurd (refused-not-passed b p r)
+  told-one (Refused a) (Accept b) r (q, f, t) = absurd (refused-not-passed a q r)
+  told-one (Refused a) (Reject b) r (q, f, t) = absurd (refused-not-passed a q r)
+  told-one (Refused a) (Refused b) (l, r) (k, s) = ap Refused (answers-one checks r s)
+
+-- two deliveries of one length, alike at the coin's positions
+module _ (m : ℕ) (bs w π v ρ : List ℕ) (coin : ℕ) (lw : length w ≡ 2 ^ length bs) (lπ : length π ≡ S (length bs)) (lv : length v ≡ 2 ^ length bs) (lρ : length ρ ≡ S (length bs))
+    (same : symbolsAt (length bs) w π coin ≡ symbolsAt (length bs) v ρ coin) where
+  same-checks : checkerChecks m bs w π coin ≡ checkerChecks m bs v ρ coin
+  same-checks i =
+      settingChecks m bs ++ deliveryChecks (length bs) ((lw ∙ sym lv) i) ((lπ ∙ sym lρ) i) coin ++ ((9, (All (symbols m .Sym) (same i) → ⊥)) ∷ [])
+
+  same-accepts : Accepts (symbols m) (dim (length bs)) bs w π coin ≡ Accepts (symbols m) (dim (length bs)) bs v ρ coin
+  same-accepts = same-reads (symbols m) (dim (length bs)) bs w π v ρ lw lπ lv lρ coin same
+
+  pub same-answer : (u : Verdict) → Told m bs w π coin u → Told m bs v ρ coin u
+  same-answer (Accept n) (p, e, s) = (transport (λ i. Passes (same-checks i)) p, e, transport same-accepts s)
+  same-answer (Reject n) (p, e, s) = (transport (λ i. Passes (same-checks i)) p, e, λ t. s (transport (sym same-accepts) t))
+  same-answer (Refused n) r = transport (λ i. Refuses (same-checks i) n) r

@@ -1,0 +1,69 @@
+-- The printed sentences. Each theorem is about what the calls' contracts say: `Told m bs w π coin v` is the contract of
+-- verifier's `check` for its answer v on the modulus m, the basis bs, the word w, the proof π and the coin.
+use mathlib.Core.Path.{_≡_, refl}
+use mathlib.Core.Logic.{_↔_, inr}
+use mathlib.Core.List.{List, map}
+use Prim.Native.Nat.{ℕ, _^_, _≤_, _<_}
+use lib.ListN.{length}
+use Rattle.lists.specs.All.{All}
+use Rattle.field.specs.Symbols.{symbols}
+use Rattle.space.specs.Sound.{Sound, sound-field, sound-passes}
+use Rattle.proximity.specs.Coverage.{all-coins-read}
+use Rattle.proximity.specs.Dim.{dim, S, R}
+use Rattle.proximity.specs.Proof.{Honest}
+use Rattle.proximity.specs.Reads.{few-reads}
+use Rattle.proximity.specs.Verifier.{Accepts, positions, readAt}
+use Rattle.proximity.specs.Verdict.{accepted-sym}
+use Rattle.verifier.specs.Checker.{symbolsAt, readsOf, Told}
+use Rattle.verifier.specs.Verdicts.{told-coin, delivery-passes}
+use Rattle.verifier.specs.declared.Verdict.{Verdict}
+use Rattle.verifier.specs.declared.Verdict.the-variants.{Accept, Reject, Refused}
+use Rattle.terms.specs.Answer.{told-one, same-answer}
+
+-- ---- the checker
+
+-- The call gives one answer.
+pub one-answer : (m : ℕ) (bs w π : List ℕ) (coin : ℕ) (u v : Verdict) → Told m bs w π coin u → Told m bs w π coin v → u ≡ v
+one-answer = told-one
+
+-- A setting is sound when it passes checks 1 to 5 (`Sound`); the right lengths are 2^k and S(k), k being the basis's length.
+module _ (m : ℕ) (bs : List ℕ) (s : Sound m bs) (w π : List ℕ) (lw : length w ≡ 2 ^ length bs) (lπ : length π ≡ S (length bs)) where
+  -- the checker's answer is accept at every coin below 2^R; refusal 9 is no acceptance
+  abbrev pub AcceptedAtAllCoins : Type 0
+  AcceptedAtAllCoins = (coin : ℕ) → coin < 2 ^ R (length bs) → (reads : ℕ) × Told m bs w π coin (Accept reads)
+
+  -- the word evaluates a polynomial of degree below an eighth of its length, and the proof is the one laid out for it
+  abbrev pub PairOfAPolynomial : Type 0
+  PairOfAPolynomial = (P : List ℕ) × Honest (symbols m) (dim (length bs)) bs w π P
+
+  -- Sentence 3, first part: whatever numbers word and proof hold.
+  pub accepted-exactly : AcceptedAtAllCoins ↔ PairOfAPolynomial
+  accepted-exactly = (
+    (λ f. read-at-all .0 (λ coin h. told-accept coin (f coin h .1))),
+    λ H coin h. (readsOf (length bs) coin, accept-told coin h (read-at-all .1 H coin h)),
+  )
+    where
+      read-at-all : ((coin : ℕ) → coin < 2 ^ R (length bs) → All (symbols m .Sym) (symbolsAt (length bs) w π coin) × Accepts (symbols m) (dim (length bs)) bs w π coin) ↔ PairOfAPolynomial
+      read-at-all = all-coins-read (sound-field s) (dim (length bs)) bs w π (s .basis) lw lπ
+
+      told-accept : (coin : ℕ) {reads : ℕ} → Told m bs w π coin (Accept reads) → All (symbols m .Sym) (symbolsAt (length bs) w π coin) × Accepts (symbols m) (dim (length bs)) bs w π coin
+      told-accept coin (p, e, a) = (accepted-sym (sound-field s) (dim (length bs)) bs w π (s .basis) lw lπ coin a, a)
+
+      accept-told : (coin : ℕ) → coin < 2 ^ R (length bs) → All (symbols m .Sym) (symbolsAt (length bs) w π coin) × Accepts (symbols m) (dim (length bs)) bs w π coin
+          → Told m bs w π coin (Accept (readsOf (length bs) coin))
+      accept-told coin h (r, a) =
+          told-coin m bs w π coin (sound-passes m bs s) (delivery-passes (length bs) (length w) (length π) coin lw lπ h) (Accept (readsOf (length bs) coin)) (inr ((λ f. f r), refl), refl, a)
+
+-- Sentence 3, second part: a coin's positions follow from k and the coin alone (`positions`), they are at most 64,
+pub at-most-64-reads : (k coin : ℕ) → length (positions (dim k) coin) ≤ 64
+at-most-64-reads k coin = few-reads (dim k) coin
+
+-- and the number that comes with a verdict is theirs.
+pub reads-told : (m : ℕ) (bs w π : List ℕ) (coin n : ℕ) → Told m bs w π coin (Accept n) → n ≡ length (positions (dim (length bs)) coin)
+reads-told m bs w π coin n (p, e, a) = e
+
+-- Two deliveries of the right lengths alike at these positions get the same answer at that coin, a refusal included.
+pub alike-at-the-positions : (m : ℕ) (bs w π v ρ : List ℕ) (coin : ℕ) → length w ≡ 2 ^ length bs → length π ≡ S (length bs) → length v ≡ 2 ^ length bs → length ρ ≡ S (length bs)
+    → map (readAt w π) (positions (dim (length bs)) coin) ≡ map (readAt v ρ) (positions (dim (length bs)) coin)
+    → (answer : Verdict) → Told m bs w π coin answer → Told m bs v ρ coin answer
+alike-at-the-positions = same-answer

@@ -1,0 +1,348 @@
+-- `verifier::parts::check_parts` meets its contract. The measure is the dimension. Assumes nothing.
+use mathlib.Core.Path.{_≡_, refl, sym, ap, _∙_, subst}
+use mathlib.Core.List.{List}
+use Prim.Native.Nat.{_-_, _*_, _^_, _≤_}
+use native.Mathlib.Omega.{arith}
+use lib.ListN.{length, take, drop}
+use lib.Pow.{pow-mono}
+use lib.Seq.{length-take-le}
+use borrow.Author.Needs.{needs}
+use Rattle.lists.specs.Tables.{length-tab}
+use Rattle.field.specs.Symbols.{symbols}
+use Rattle.transform.specs.Slices.{Transposed}
+use Rattle.proximity.specs.ByLine.{InRange, lineDim, lineWord, lineProof}
+use Rattle.proximity.specs.Dim.{half, rowDim, colDim, S}
+use Rattle.proximity.specs.LineLaws.{line-in-range}
+use Rattle.proximity.specs.Proof.{slot}
+use Rattle.proximity.specs.declared.Line.{Line}
+use Rattle.proximity.specs.declared.Line.the-variants.{Row, Column}
+use Rattle.verifier.specs.OnCoin.{on-short}
+use Rattle.verifier.specs.declared.Verdict.{Verdict}
+use Rattle.verifier.specs.Parts.{InSpace, Lent, joined, noSymbols}
+use Rattle.verifier.proofs.Joins.{row-lent, row-joined, plain-lent, plain-joined}
+use Rattle.verifier.proofs.Laws.{length-no-symbols}
+use Rattle.verifier.proofs.Lines.{Claim, word-long, in-range, dimension, dimension-falls, inner-long, inner-space, outer-claim}
+use Prim.Native.Nat.{ℕ, _<_}
+use borrow.Fn.Kinds.{In}
+use borrow.Fn.PlainCycle.{Measures, is, falls, and}
+use Rattle.verifier.proofs.parts.check_parts.Reads as check-parts
+use Rattle.verifier.proofs.parts.check_parts.Kinds as check-parts-kinds
+use Rattle.verifier.proofs.parts.+check_parts.Lts-check_parts as check-parts-lts
+use Rattle.proximity.proofs.lines.line_dimension.Reads as line-dimension-reads
+use Rattle.proximity.proofs.lines.line_of.Reads as line-of-reads
+use Rattle.proximity.proofs.lines.rest_of.Reads as rest-of-reads
+use Rattle.proximity.proofs.lines.rows.Reads as rows-reads
+use Rattle.proximity.proofs.lines.slot.Reads as slot-reads
+use Rattle.proximity.proofs.spaces.line_images.Reads as line-images-reads
+use Rattle.verifier.proofs.blocks.line_proof.Reads as line-proof-reads
+use Rattle.verifier.proofs.blocks.row_far.Reads as row-far-reads
+use Rattle.verifier.proofs.blocks.row_near.Reads as row-near-reads
+use Rattle.verifier.proofs.gather.column.Reads as column-reads
+use Rattle.verifier.proofs.gather.gather.Reads as gather-reads
+use Rattle.verifier.proofs.parts.first_block.Reads as first-block-reads
+use Rattle.verifier.proofs.parts.other_blocks.Reads as other-blocks-reads
+use Rattle.verifier.proofs.parts.short_verdict.Reads as short-verdict-reads
+use Rattle.verifier.proofs.parts.+check_parts.{statement}
+use Rattle.verifier.proofs.parts.+check_parts.Tie.{close}
+
+abbrev μ : Measures 2 check-parts-kinds.ps ℕ
+μ κs a = a .1 .0
+
+abbrev at : ℕ → In 2 check-parts-kinds.ps
+at t =
+    and 2 check-parts-kinds.ps (is 2 check-parts-kinds.ps μ t) check-parts.Pre
+
+abbrev below : ℕ → In 2 check-parts-kinds.ps
+below t =
+    and 2 check-parts-kinds.ps (falls 2 check-parts-kinds.ps _<_ μ t) check-parts.Pre
+
+abbrev claims : ℕ → check-parts-lts.Claims
+claims t = (gather-reads.Asked, gather-reads.Learnt, short-verdict-reads.Asked, short-verdict-reads.Learnt, rest-of-reads.Asked, rest-of-reads.Learnt, line-of-reads.Asked, line-of-reads.Learnt, line-dimension-reads.Asked, line-dimension-reads.Learnt, line-images-reads.Asked, line-images-reads.Learnt, line-proof-reads.Asked, line-proof-reads.Learnt, row-near-reads.Asked, row-near-reads.Learnt, row-far-reads.Asked, row-far-reads.Learnt, slot-reads.Asked, slot-reads.Learnt, below t, check-parts.Post, column-reads.Asked, column-reads.Learnt, rows-reads.Asked, rows-reads.Learnt, first-block-reads.Asked, first-block-reads.Learnt, other-blocks-reads.Asked, other-blocks-reads.Learnt)
+
+abbrev Start : ℕ → Type 0
+Start t = check-parts-lts.Start (claims t) (at t) check-parts.Post
+
+-- what the contract gives at the entry
+module _ (t : ℕ) (c : Start t) where
+  abbrev near : List ℕ
+  near = c .args .near .now
+
+  abbrev far : List ℕ
+  far = c .args .far .now
+
+  abbrev proof : List ℕ
+  proof = c .args .proof .now
+
+  abbrev space : InSpace (c .args .f) (c .args .k) (c .args .images .now)
+  space = c .pre .1 .0
+
+  abbrev lent : Lent (c .args .k) near far (c .args .slot) proof
+  lent = c .pre .1 .1
+
+  abbrev word : List ℕ
+  word = joined near far (c .args .slot)
+
+  long : length word ≡ 2 ^ c .args .k
+  long = word-long (c .args .f) (c .args .k) (c .args .images .now) near far (c .args .slot) proof (c .args .coin) space lent
+
+gather-requires : (t : ℕ) → check-parts-lts.Need-gather-requires (claims t) (at t) check-parts.Post
+gather-requires t c κs =
+    let s = c .before .before .before .before in
+    let small : 2 ^ (s .args .k - 3) ≤ 8 = pow-mono {j = 3} (omega arith) in
+    (lent t s .parts, omega (arith, lent t s .eighth))
+
+short-verdict-requires : (t : ℕ) → check-parts-lts.Need-short-verdict-requires (claims t) (at t) check-parts.Post
+short-verdict-requires t c κs = (space t (c .before .before .before .before .before), omega arith, c .gather .ensures .kept ∙ length-no-symbols)
+
+returns : (t : ℕ) → check-parts-lts.Need-returns (claims t) (at t) check-parts.Post
+returns t c = λ b B I.
+    let s = c .before .before .before .before .before .before in
+    let g = c .before .gather .ensures in
+    on-short (symbols (s .args .f .modulus)) (s .args .k) (omega arith) b (word t s) (proof t s) (long t s) (s .args .coin) (c .short-verdict .result)
+    (c .short-verdict .ensures b (word t s) B I (long t s)
+    (subst (λ (n : ℕ). Transposed 8 n (word t s) noSymbols (c .before .gather .result)) (lent t s .eighth) g))
+
+rest-of-requires : (t : ℕ) → check-parts-lts.Need-rest-of-requires (claims t) (at t) check-parts.Post
+rest-of-requires t c κs = search needs
+
+line-of-requires : (t : ℕ) → check-parts-lts.Need-line-of-requires (claims t) (at t) check-parts.Post
+line-of-requires t c κs = search needs
+
+line-dimension-requires : (t : ℕ) → check-parts-lts.Need-line-dimension-requires (claims t) (at t) check-parts.Post
+line-dimension-requires t c κs = search needs
+
+line-images-requires : (t : ℕ) → check-parts-lts.Need-line-images-requires (claims t) (at t) check-parts.Post
+line-images-requires t c κs =
+    let s = c .before .before .before .before .before .before .before in
+    (omega arith, space t s .high, space t s .table .count)
+
+line-proof-requires : (t : ℕ) → check-parts-lts.Need-line-proof-requires (claims t) (at t) check-parts.Post
+line-proof-requires t c κs =
+    let s = c .before .before .before .before .before .before .before .before in
+    (omega arith, space t s .high, lent t s .proof, subst (InRange (s .args .k)) (sym (c .before .before .line-of .ensures)) (line-in-range (s .args .k) (s .args .coin)))
+
+enum-known-line : (t : ℕ) → check-parts-lts.Need-enum-known-line (claims t) (at t) check-parts.Post
+enum-known-line t c = search needs
+
+-- after the line's table and proof: the facts that the two arms share
+module _ (t : ℕ) (c : check-parts-lts.After-line-proof (claims t) (at t) check-parts.Post) (line : Line) (e : c .before .before .before .line-of .result ≡ line) where
+  abbrev start : Start t
+  start = c .before .before .before .before .before .before .before .before .before
+
+  abbrev k : ℕ
+  k = start .args .k
+
+  seven : 7 ≤ k
+  seven = omega arith
+
+  range : InRange k line
+  range =
+      in-range (start .args .f) k (start .args .images .now) (near t start) (far t start) (start .args .slot) (proof t start) (start .args .coin) (space t start) (lent t start) seven
+      (c .before .before .before .line-of .result) line (c .before .before .before .line-of .ensures) e (c .before .before .line-dimension .result) (c .before .before .line-dimension .ensures)
+      (c .before .line-images .result) (c .before .line-images .ensures) (c .line-proof .result .now) (c .line-proof .ensures) (c .before .before .before .before .rest-of .result)
+      (c .before .before .before .before .rest-of .ensures)
+
+  falls-to : c .before .before .line-dimension .result < k
+  falls-to =
+      dimension-falls (start .args .f) k (start .args .images .now) (near t start) (far t start) (start .args .slot) (proof t start) (start .args .coin) (space t start) (lent t start) seven
+      (c .before .before .before .line-of .result) line (c .before .before .before .line-of .ensures) e (c .before .before .line-dimension .result) (c .before .before .line-dimension .ensures)
+      (c .before .line-images .result) (c .before .line-images .ensures) (c .line-proof .result .now) (c .line-proof .ensures) (c .before .before .before .before .rest-of .result)
+      (c .before .before .before .before .rest-of .ensures)
+
+  falls-below : c .before .before .line-dimension .result < t
+  falls-below = omega (arith, falls-to, start .pre .0)
+
+  dim-is : c .before .before .line-dimension .result ≡ lineDim k line
+  dim-is =
+      dimension (start .args .f) k (start .args .images .now) (near t start) (far t start) (start .args .slot) (proof t start) (start .args .coin) (space t start) (lent t start) seven
+      (c .before .before .before .line-of .result) line (c .before .before .before .line-of .ensures) e (c .before .before .line-dimension .result) (c .before .before .line-dimension .ensures)
+      (c .before .line-images .result) (c .before .line-images .ensures) (c .line-proof .result .now) (c .line-proof .ensures) (c .before .before .before .before .rest-of .result)
+      (c .before .before .before .before .rest-of .ensures)
+
+  proof-long : length (c .line-proof .result .now) ≡ S (c .before .before .line-dimension .result)
+  proof-long =
+      inner-long (start .args .f) k (start .args .images .now) (near t start) (far t start) (start .args .slot) (proof t start) (start .args .coin) (space t start) (lent t start) seven
+      (c .before .before .before .line-of .result) line (c .before .before .before .line-of .ensures) e (c .before .before .line-dimension .result) (c .before .before .line-dimension .ensures)
+      (c .before .line-images .result) (c .before .line-images .ensures) (c .line-proof .result .now) (c .line-proof .ensures) (c .before .before .before .before .rest-of .result)
+      (c .before .before .before .before .rest-of .ensures)
+
+  whole-claim : (v : Verdict) (u : List ℕ) → u ≡ lineWord k (word t start) (proof t start) line
+      → Claim (start .args .f) (c .before .before .line-dimension .result) (c .before .line-images .result) u (c .line-proof .result .now) (c .before .before .before .before .rest-of .result) v
+      → Claim (start .args .f) k (start .args .images .now) (word t start) (proof t start) (start .args .coin) v
+  whole-claim =
+      outer-claim (start .args .f) k (start .args .images .now) (near t start) (far t start) (start .args .slot) (proof t start) (start .args .coin) (space t start) (lent t start) seven
+      (c .before .before .before .line-of .result) line (c .before .before .before .line-of .ensures) e (c .before .before .line-dimension .result) (c .before .before .line-dimension .ensures)
+      (c .before .line-images .result) (c .before .line-images .ensures) (c .line-proof .result .now) (c .line-proof .ensures) (c .before .before .before .before .rest-of .result)
+      (c .before .before .before .before .rest-of .ensures)
+
+  inside : InSpace (start .args .f) (c .before .before .line-dimension .result) (c .before .line-images .result)
+  inside =
+      inner-space (start .args .f) k (start .args .images .now) (near t start) (far t start) (start .args .slot) (proof t start) (start .args .coin) (space t start) (lent t start) seven
+      (c .before .before .before .line-of .result) line (c .before .before .before .line-of .ensures) e (c .before .before .line-dimension .result) (c .before .before .line-dimension .ensures)
+      (c .before .line-images .result) (c .before .line-images .ensures) (c .line-proof .result .now) (c .line-proof .ensures) (c .before .before .before .before .rest-of .result)
+      (c .before .before .before .before .rest-of .ensures)
+
+row-near-requires : (t : ℕ) → check-parts-lts.Need-row-near-requires (claims t) (at t) check-parts.Post
+row-near-requires t c κs =
+    let p = c .before .before .before .before in
+    let s = start t p _ (c .before .before .line .given .1) in
+    (lent t s .parts, lent t s .eighth, seven t p _ (c .before .before .line .given .1), space t s .high, range t p _ (c .before .before .line .given .1))
+
+row-far-requires : (t : ℕ) → check-parts-lts.Need-row-far-requires (claims t) (at t) check-parts.Post
+row-far-requires t c κs =
+    let p = c .before .before .before .before .before in
+    let e = c .before .before .before .line .given .1 in
+    let s = start t p _ e in
+    (seven t p _ e, space t s .high, lent t s .proof, range t p _ e)
+
+slot-requires : (t : ℕ) → check-parts-lts.Need-slot-requires (claims t) (at t) check-parts.Post
+slot-requires t c κs = search needs
+
+-- the row arm: the row's word is in two parts
+module _ (t : ℕ) (c : check-parts-lts.After-slot (claims t) (at t) check-parts.Post) where
+  abbrev lines : check-parts-lts.After-line-proof (claims t) (at t) check-parts.Post
+  lines = c .before .before .before .before .before .before .before
+
+  abbrev row-number : ℕ
+  row-number = c .before .before .before .before .before .line .given .0 .0
+
+  row-taken : lines .before .before .before .line-of .result ≡ Row row-number
+  row-taken = c .before .before .before .before .before .line .given .1
+
+  abbrev entry : Start t
+  entry = start t lines (Row row-number) row-taken
+
+  row-parts : (ρ : List ℕ) → length ρ ≡ S (rowDim (entry .args .k)) → Lent (rowDim (entry .args .k)) (c .before .before .row-near .result .now) (c .before .row-far .result .now) (slot row-number) ρ
+  row-parts =
+      row-lent (entry .args .k) (seven t lines (Row row-number) row-taken) (word t entry) (proof t entry) (long t entry) (lent t entry .proof) row-number (range t lines (Row row-number) row-taken)
+      (c .before .before .row-near .result .now) (c .before .row-far .result .now) (c .before .before .row-near .ensures) (c .before .row-far .ensures)
+
+  row-word : joined (c .before .before .row-near .result .now) (c .before .row-far .result .now) (c .slot .result) ≡ lineWord (entry .args .k) (word t entry) (proof t entry) (Row row-number)
+  row-word =
+      ap (joined (c .before .before .row-near .result .now) (c .before .row-far .result .now)) (c .slot .ensures)
+      ∙ row-joined (entry .args .k) (seven t lines (Row row-number) row-taken) (word t entry) (proof t entry) (long t entry) (lent t entry .proof) row-number (range t lines (Row row-number) row-taken)
+      (c .before .before .row-near .result .now) (c .before .row-far .result .now) (c .before .before .row-near .ensures) (c .before .row-far .ensures)
+
+check-parts-requires : (t : ℕ) → check-parts-lts.Need-check-parts-requires (claims t) (at t) check-parts.Post
+check-parts-requires t c κs =
+    let p = lines t c in
+    let e = row-taken t c in
+    let d = dim-is t p _ e in (
+      falls-below t p _ e,
+      (
+        inside t p _ e,
+        subst (λ (s : ℕ). Lent (p .before .before .line-dimension .result) (c .before .before .row-near .result .now) (c .before .row-far .result .now) s (p .line-proof .result .now)) (sym (c .slot .ensures))
+            (subst (λ (n : ℕ). Lent n (c .before .before .row-near .result .now) (c .before .row-far .result .now) (slot (row-number t c)) (p .line-proof .result .now)) (sym d)
+            (row-parts t c (p .line-proof .result .now) (proof-long t p _ e ∙ ap S d))),
+      ),
+    )
+
+enum-known-line-2 : (t : ℕ) → check-parts-lts.Need-enum-known-line-2 (claims t) (at t) check-parts.Post
+enum-known-line-2 t c = search needs
+
+column-requires : (t : ℕ) → check-parts-lts.Need-column-requires (claims t) (at t) check-parts.Post
+column-requires t c κs =
+    let p = c .before .before .before in
+    let e = c .before .line2 .given .1 in
+    let s = start t p _ e in
+    (lent t s .parts, lent t s .eighth, seven t p _ e, space t s .high, lent t s .proof, range t p _ e)
+
+rows-requires : (t : ℕ) → check-parts-lts.Need-rows-requires (claims t) (at t) check-parts.Post
+rows-requires t c κs = space t (c .before .before .before .before .before .before .before .before .before .before .before .before .before) .high
+
+array-share-prefix-read : (t : ℕ) → check-parts-lts.Need-array-share-prefix-read (claims t) (at t) check-parts.Post
+array-share-prefix-read t c =
+    let s = c .before .before .before .before .before .before .before .before .before .before .before .before .before .before in
+    let few : 2 ^ colDim (s .args .k) ≤ 64 = pow-mono {j = 6} (omega (arith, space t s .high)) in
+    omega (arith, c .rows .ensures, c .before .column .ensures .0)
+
+slice-aggregate-whole : (t : ℕ) → check-parts-lts.Need-slice-aggregate-whole (claims t) (at t) check-parts.Post
+slice-aggregate-whole t c =
+    let s = c .before .before .before .before .before .before .before .before .before .before .before .before .before .before .before in
+    let few : 2 ^ colDim (s .args .k) ≤ 64 = pow-mono {j = 6} (omega (arith, space t s .high)) in
+    sym (length-take-le (c .before .rows .result) (c .before .before .column .result) (omega (arith, c .before .rows .ensures, c .before .before .column .ensures .0)))
+
+first-block-requires : (t : ℕ) → check-parts-lts.Need-first-block-requires (claims t) (at t) check-parts.Post
+first-block-requires t c κs = search needs
+
+other-blocks-requires : (t : ℕ) → check-parts-lts.Need-other-blocks-requires (claims t) (at t) check-parts.Post
+other-blocks-requires t c κs = search needs
+
+-- the column arm: the column's word is plain
+module _ (t : ℕ) (c : check-parts-lts.After-other-blocks (claims t) (at t) check-parts.Post) where
+  abbrev lines2 : check-parts-lts.After-line-proof (claims t) (at t) check-parts.Post
+  lines2 = c .before .before .before .before .before .before .before .before .before
+
+  abbrev column-number : ℕ
+  column-number = c .before .before .before .before .before .before .before .line2 .given .0 .0
+
+  column-taken : lines2 .before .before .before .line-of .result ≡ Column column-number
+  column-taken = c .before .before .before .before .before .before .before .line2 .given .1
+
+  abbrev entry2 : Start t
+  entry2 = start t lines2 (Column column-number) column-taken
+
+  abbrev whole : List ℕ
+  whole = take (c .before .before .before .before .rows .result) (c .before .before .before .before .before .column .result)
+
+  column-word : whole ≡ lineWord (entry2 .args .k) (word t entry2) (proof t entry2) (Column column-number)
+  column-word = ap (λ (n : ℕ). take n (c .before .before .before .before .before .column .result)) (c .before .before .before .before .rows .ensures) ∙ c .before .before .before .before .before .column .ensures .1
+
+  whole-long : length whole ≡ 2 ^ colDim (entry2 .args .k)
+  whole-long = ap length column-word ∙ length-tab (2 ^ colDim (entry2 .args .k)) _
+
+check-parts-requires-2 : (t : ℕ) → check-parts-lts.Need-check-parts-requires-2 (claims t) (at t) check-parts.Post
+check-parts-requires-2 t c κs =
+    let p = lines2 t c in
+    let e = column-taken t c in
+    let d = dim-is t p _ e in (
+      falls-below t p _ e,
+      (
+        inside t p _ e,
+        plain-lent (p .before .before .line-dimension .result) (inside t p _ e .low) (whole t c) (whole-long t c ∙ ap (λ (n : ℕ). 2 ^ n) (sym d)) (c .before .first-block .result .now) (c .other-blocks .result .now)
+            (c .before .first-block .ensures) (c .other-blocks .ensures) (p .line-proof .result .now) (proof-long t p _ e),
+      ),
+    )
+
+returns-2 : (t : ℕ) → check-parts-lts.Need-returns-2 (claims t) (at t) check-parts.Post
+returns-2 t c =
+    let s = c .before in
+    whole-claim t (lines t s) _ (row-taken t s) (c .check-parts .result) _ (row-word t s) (c .check-parts .ensures)
+
+returns-3 : (t : ℕ) → check-parts-lts.Need-returns-3 (claims t) (at t) check-parts.Post
+returns-3 t c =
+    let s = c .before in
+    let p = lines2 t s in
+    let e = column-taken t s in
+    let d = dim-is t p _ e in
+    whole-claim t p _ e (c .check-parts2 .result) _
+    (plain-joined (p .before .before .line-dimension .result) (inside t p _ e .low) (whole t s) (whole-long t s ∙ ap (λ (n : ℕ). 2 ^ n) (sym d)) (s .before .first-block .result .now)
+    (s .other-blocks .result .now) (s .before .first-block .ensures) (s .other-blocks .ensures) ∙ column-word t s)
+    (c .check-parts2 .ensures)
+
+pub +check-parts-spec : {M : Type 1} → statement M
++check-parts-spec = close μ λ t. check-parts-lts.spec (claims t) (at t)
+    check-parts.Post
+    (gather-requires t)
+    (short-verdict-requires t)
+    (returns t)
+    (rest-of-requires t)
+    (line-of-requires t)
+    (line-dimension-requires t)
+    (line-images-requires t)
+    (line-proof-requires t)
+    (enum-known-line t)
+    (row-near-requires t)
+    (row-far-requires t)
+    (slot-requires t)
+    (check-parts-requires t)
+    (enum-known-line-2 t)
+    (column-requires t)
+    (rows-requires t)
+    (array-share-prefix-read t)
+    (slice-aggregate-whole t)
+    (first-block-requires t)
+    (other-blocks-requires t)
+    (check-parts-requires-2 t)
+    (returns-2 t)
+    (returns-3 t)

@@ -1,0 +1,125 @@
+-- `verifier::parts::short_verdict` meets its contract. Assumes nothing.
+use mathlib.Core.Path.{_≡_, refl, sym, ap, _∙_, subst}
+use mathlib.Core.Logic.{_⊎_, inl, inr}
+use mathlib.Core.List.{List, [], _∷_}
+use Prim.Native.Nat.{ℕ, _-_, _*_, _%_, _^_, _≤_, _<_}
+use native.Mathlib.Omega.{arith}
+use lib.ListN.{length, take}
+use lib.Pow.{pow-pos, pow-mono}
+use lib.Seq.{length-take-le}
+use Rattle.lists.specs.All.{All, Below, All-take}
+use Rattle.lists.specs.Answers.{Passes}
+use Rattle.lists.specs.Decides.{Decides, decides-true, decides-false}
+use Rattle.field.specs.Symbols.{symbols}
+use Rattle.poly.specs.Codeword.{Basis, Codeword}
+use Rattle.space.specs.Images.{Images}
+use Rattle.transform.specs.Slices.{Transposed}
+use Rattle.verifier.specs.Parts.{noSymbols}
+use Rattle.field.specs.Binary.{degree}
+use Rattle.verifier.proofs.Joins.{eighths}
+use Rattle.verifier.proofs.Laws.{one-shifted}
+use Rattle.verifier.proofs.Short.{word-below, read-below}
+use borrow.Author.Needs.{needs}
+use Rattle.verifier.proofs.parts.short_verdict.Statement.{statement}
+use Rattle.verifier.proofs.parts.short_verdict.Tie as tie
+
+slice-aggregate-all-symbols : tie.Need-slice-aggregate-all-symbols
+slice-aggregate-all-symbols c = search needs
+
+all-symbols-requires : tie.Need-all-symbols-requires
+all-symbols-requires c κs = c .before .pre .0 .sized
+
+-- all symbols that were read are below 2^l
+module _ (c : tie.Then1) where
+  abbrev start : tie.Start
+  start = c .before .before .before
+
+  abbrev k : ℕ
+  k = start .args .k
+
+  abbrev q : ℕ
+  q = start .args .f .modulus
+
+  small : Below (2 ^ degree q) (start .args .t4)
+  small = decides-true _ (c .before .all-symbols .ensures) (c .if1 .taken)
+
+  few : 2 ^ k ≤ 64
+  few = pow-mono {j = 6} (start .pre .1)
+
+  low : 3 ≤ k
+  low = start .pre .0 .low
+
+short-codeword-requires : tie.Need-short-codeword-requires
+short-codeword-requires c κs =
+    let s = start c .pre .0 in
+    let r = start c .args .t4 in (
+      record {
+        sized = s .sized;
+        irreducible = s .irreducible;
+        low = s .low;
+        high = omega (arith, start c .pre .1);
+        long = length-take-le (2 ^ k c) r (omega (arith, few c, start c .pre .2));
+        image-symbols = s .table .elements;
+        symbols = All-take (λ (x : ℕ). x < 2 ^ degree (q c)) (2 ^ k c) r (small c);
+      },
+      start c .pre .1,
+    )
+
+shl-t11 : tie.Need-shl-t11
+shl-t11 c = search needs
+
+-- what the codeword test tells of a word whose blocks are the lanes
+module _ (c : tie.After-short-codeword) (b w : List ℕ) (B : Basis (symbols (q (c .before))) (k (c .before)) b) (I : Images (symbols (q (c .before))) b (start (c .before) .args .images .now))
+    (lw : length w ≡ 2 ^ k (c .before)) (t : Transposed 8 (2 ^ (k (c .before) - 3)) w noSymbols (start (c .before) .args .t4)) where
+  abbrev here : tie.Then1
+  here = c .before
+
+  passes : Passes (((9, (All (λ (x : ℕ). x < 2 ^ degree (q here)) w → ⊥)) ∷ []))
+  passes =
+      inr (
+        (λ no-symbol. no-symbol (word-below (2 ^ (k here - 3)) (2 ^ degree (q here)) (pow-pos (k here - 3)) (pow-pos (degree (q here))) w (start here .args .t4) (lw ∙ eighths (k here) (low here)) t (small here))),
+        refl,
+      )
+
+  count : 1 * 2 ^ k here % 18446744073709551616 ≡ 2 ^ k here
+  count = one-shifted (k here) (omega (arith, start here .pre .1))
+
+  test : Decides (c .short-codeword .result) (Codeword (symbols (q here)) (k here) b w)
+  test = c .short-codeword .ensures b B I w lw (t .lanes)
+
+returns : tie.Need-returns
+returns c = λ b w B I lw t.
+    (passes (c .before) b w B I lw t, count (c .before) b w B I lw t, decides-true _ (test (c .before) b w B I lw t) (c .if2 .taken))
+
+shl-t12 : tie.Need-shl-t12
+shl-t12 c = search needs
+
+returns-2 : tie.Need-returns-2
+returns-2 c = λ b w B I lw t.
+    (passes (c .before) b w B I lw t, count (c .before) b w B I lw t, decides-false _ (test (c .before) b w B I lw t) (c .if2 .left))
+
+returns-3 : tie.Need-returns-3
+returns-3 c = λ b w B I lw t.
+    let s = c .before .before .before in
+    let q = s .args .f .modulus in
+    let k = s .args .k in (
+      omega arith,
+      inl (
+        (λ h. decides-false _ (c .before .all-symbols .ensures) (c .if1 .left)
+            (read-below (2 ^ (k - 3)) (2 ^ degree q) (pow-pos (k - 3)) (pow-pos (degree q)) w (s .args .t4) (lw ∙ eighths k (s .pre .0 .low)) t h)),
+        refl,
+      ),
+    )
+
+pub short-verdict-spec : {M : Type 1} → statement M
+short-verdict-spec =
+    tie.close
+    (tie.spec
+    slice-aggregate-all-symbols
+    all-symbols-requires
+    short-codeword-requires
+    shl-t11
+    returns
+    shl-t12
+    returns-2
+    returns-3)
