@@ -7,3 +7,6 @@ pub mod Accepted
 pub mod ByteLaws
 pub mod Whole
 pub mod Written
+pub mod Writer
+pub mod Put
+pub mod WriterLaws

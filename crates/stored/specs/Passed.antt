@@ -34,7 +34,7 @@ opens-stable f p n a b g =
     by-eq (yes h) k = h
     by-eq (no h) k = absurd (k h)
 
-eq-stable : (x y : ℕ) → ((x ≡ y → ⊥) → ⊥) → x ≡ y
+pub eq-stable : (x y : ℕ) → ((x ≡ y → ⊥) → ⊥) → x ≡ y
 eq-stable x y k = by (ℕ-discrete x y)
   where
     by : Dec (x ≡ y) → x ≡ y

@@ -1,12 +1,15 @@
 // The stored file: three records, numbers lowest byte first.
 pub mod bytes;
+mod put;
 pub mod records;
+mod writer;
 
 use space::Setting;
 ghost use mathlib.Core.Path.{_≡_};
 ghost use Prim.Native.Nat.{_*_, _^_};
 ghost use Rattle.stored.specs.File.{wordAt, proofAt, dimIn};
 ghost use Rattle.stored.specs.Reader.{prefixChecks, fileChecks, noRead, Told, PartOf};
+ghost use Rattle.stored.specs.Writer.{Wrote};
 ghost use Rattle.proximity.specs.Dim.{S};
 
 // A refusal's number and no setting, or 0, the setting, and where the symbols of the word and of
@@ -17,6 +20,12 @@ pub struct Reading {
     pub word: usize,
     pub proof: usize,
     pub end: usize,
+}
+
+// The file is written, or the number of a refusal.
+pub enum Outcome {
+    Written,
+    Refused(u8),
 }
 
 fn refused(number: u8) -> Reading
@@ -113,4 +122,23 @@ pub fn proof_part(file: &[u8]) -> &[u8]
         return &file[0..0];
     }
     &file[start..end]
+}
+
+// Writes the stored file of a setting, a word and a proof: checks 1 to 6 and 9, then the bytes.
+//
+// Ruled out: a file whose count is not the one of its symbols, or that another byte string would
+// be; an output that a refused call has changed.
+pub fn write(modulus: u32, basis: &[u16], word: &[u16], proof: &[u16], out: &mut [u8]) -> Outcome
+    ensures { λ r. ⌜ Wrote modulus (now (basis .entry)) (now (word .entry)) (now (proof .entry)) (now (out .entry)) (now (out .exit)) r ⌝ }
+{
+    let number = writer::refusal(modulus, basis, word, proof, out.len());
+    if number != 0 {
+        return Outcome::Refused(number);
+    }
+    let second = 7 + 2 * basis.len();
+    let third = second + 6 + 2 * word.len();
+    put::put_setting(modulus, basis, out);
+    put::put_record(0x57, 0x4F, word, second, out);
+    put::put_record(0x50, 0x46, proof, third, out);
+    Outcome::Written
 }

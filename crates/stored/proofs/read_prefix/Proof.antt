@@ -4,7 +4,6 @@ use mathlib.Core.Logic.{inl, inr}
 use mathlib.Core.List.{List}
 use Prim.Native.Nat.{ℕ, _*_, _%_, _^_, _≤_}
 use native.Mathlib.Omega.{arith}
-use lib.Pow.{pow-mono}
 use Rattle.lists.specs.Answers.{Answers, Passes, Refuses, answers-after, refused-first}
 use Rattle.field.specs.Binary.{degree}
 use Rattle.space.specs.Ready.{Ready}
@@ -16,6 +15,7 @@ use Rattle.stored.specs.Accepted.{setting-numbered, setting-passed, read
 use Rattle.stored.specs.File.{modulusIn, dimIn, basisIn}
 use Rattle.stored.specs.Passed.{Head, length-basis}
 use Rattle.stored.specs.Reader.{settingChecks, symbolChecks, prefixChecks}
+use Rattle.stored.proofs.Laws.{word-count}
 use borrow.Author.Needs.{needs}
 use Rattle.stored.proofs.read_prefix.Statement.{statement}
 use Rattle.stored.proofs.read_prefix.Tie as tie
@@ -61,7 +61,7 @@ module _ (c : tie.Else1) where
 
   -- 2^k, as it is computed
   count : (1 * 2 ^ found .space .k % 18446744073709551616 ≡ 2 ^ found .space .k) × (2 ^ found .space .k ≤ 4096)
-  count = let s = pow-mono {i = found .space .k} {j = 12} few in (omega arith, s)
+  count = word-count (found .space .k) few
 
 symbols-refusal-requires : tie.Need-symbols-refusal-requires
 symbols-refusal-requires c κs = (given c .2 .sized, few c, omega (arith, dimension c, head c .basis))

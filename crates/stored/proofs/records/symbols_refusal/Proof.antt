@@ -1,9 +1,8 @@
 -- `stored::records::symbols_refusal` meets its contract. Assumes nothing.
 use mathlib.Core.Path.{_≡_, subst}
 use mathlib.Core.List.{List}
-use Prim.Native.Nat.{ℕ, _+_, _*_, _%_, _^_, _≤_}
+use Prim.Native.Nat.{ℕ, _+_, _*_, _%_, _^_}
 use native.Mathlib.Omega.{arith}
-use lib.Pow.{pow-mono}
 use Rattle.lists.specs.Answers.{Answers, Passes, answers-after, refused-first}
 use Rattle.field.specs.Binary.{degree}
 use Rattle.proximity.specs.Dim.{S}
@@ -11,13 +10,10 @@ use Rattle.proximity.specs.LineLaws.{S-small}
 use Rattle.stored.specs.File.{wordRecordAt}
 use Rattle.stored.specs.Passed.{Held, record-numbered, record-passed}
 use Rattle.stored.specs.Reader.{recordChecks, wordChecks, proofChecks}
+use Rattle.stored.proofs.Laws.{word-count}
 use borrow.Author.Needs.{needs}
 use Rattle.stored.proofs.records.symbols_refusal.Statement.{statement}
 use Rattle.stored.proofs.records.symbols_refusal.Tie as tie
-
--- 2^k, as it is computed
-word-count : (k : ℕ) → k ≤ 12 → (1 * 2 ^ k % 18446744073709551616 ≡ 2 ^ k) × (2 ^ k ≤ 4096)
-word-count k h = let s = pow-mono {i = k} {j = 12} h in (omega arith, s)
 
 shl-n : tie.Need-shl-n
 shl-n c = search needs
