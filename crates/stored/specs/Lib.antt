@@ -10,3 +10,6 @@ pub mod Written
 pub mod Writer
 pub mod Put
 pub mod WriterLaws
+pub mod Check
+pub mod Leaf
+pub mod CheckLaws

@@ -1,15 +1,19 @@
 // The stored file: three records, numbers lowest byte first.
 pub mod bytes;
+mod check;
 mod put;
 pub mod records;
 mod writer;
 
+use proximity::tables;
 use space::Setting;
+use verifier::Verdict;
 ghost use mathlib.Core.Path.{_≡_};
 ghost use Prim.Native.Nat.{_*_, _^_};
 ghost use Rattle.stored.specs.File.{wordAt, proofAt, dimIn};
 ghost use Rattle.stored.specs.Reader.{prefixChecks, fileChecks, noRead, Told, PartOf};
 ghost use Rattle.stored.specs.Writer.{Wrote};
+ghost use Rattle.stored.specs.Check.{AnsweredFile};
 ghost use Rattle.proximity.specs.Dim.{S};
 
 // A refusal's number and no setting, or 0, the setting, and where the symbols of the word and of
@@ -66,7 +70,7 @@ pub fn read_prefix(file: &[u8]) -> Reading
         setting,
         word,
         proof,
-        end: proof + 2 * proximity::tables::proof_length(k),
+        end: proof + 2 * tables::proof_length(k),
     }
 }
 
@@ -141,4 +145,26 @@ pub fn write(modulus: u32, basis: &[u16], word: &[u16], proof: &[u16], out: &mut
     put::put_record(0x57, 0x4F, word, second, out);
     put::put_record(0x50, 0x46, proof, third, out);
     Outcome::Written
+}
+
+// The checker for one coin over a stored file: the file's checks, then 8; then the verdict, with
+// the number of symbols read. It writes nothing.
+//
+// Ruled out: 8 for a refused file with a coin out of range, since the file's checks come first; a
+// verdict on a file with a symbol out of range that the coin does not read, since that gets 9.
+pub fn check_file(file: &[u8], coin: u64) -> Verdict
+    ensures { λ v. ⌜ AnsweredFile (now (file .entry)) coin v ⌝ }
+{
+    let r = read(file);
+    let number = r.refusal;
+    let setting = r.setting;
+    let word = r.word;
+    let proof = r.proof;
+    if number != 0 {
+        return Verdict::Refused(number);
+    }
+    if coin >> tables::coin_bits(setting.space.k) != 0 {
+        return Verdict::Refused(8);
+    }
+    check::verdict(setting.field, setting.space, file, word, proof, coin)
 }
