@@ -88,7 +88,7 @@ fn tabulate(f: Field, basis: &[u16]) -> Tables
     }
 }
 
-fn no_setting() -> Setting
+pub fn no_setting() -> Setting
     ensures { λ r. ⌜ r ≡ noSetting ⌝ }
 {
     Setting {

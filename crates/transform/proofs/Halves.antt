@@ -1,8 +1,9 @@
 -- A transform in lanes by its two halves. Assumes nothing.
 use mathlib.Core.Path.{_≡_, refl, sym, ap, ap₂, _∙_, subst}
 use mathlib.Core.List.{List, _++_}
-use Prim.Native.Nat.{ℕ, suc, _+_, _-_, _*_, _/_, _^_, _≤_, _<_}
+use Prim.Native.Nat.{ℕ, _+_, _-_, _*_, _/_, _^_, _≤_, _<_}
 use native.Mathlib.Nat.{add-mul, pow-suc, le-refl}
+use native.Mathlib.Numerals.{add-one}
 use native.Mathlib.Omega.{arith}
 use lib.ListN.{length, getD, take, drop, length-append, length-drop}
 use lib.Pow.{pow-pos}
@@ -19,8 +20,11 @@ use Rattle.poly.specs.Transform.{folded, unfolded, transform, inverse, shifted,
 use Rattle.transform.specs.Layers.{Layered, Unlayered}
 use Rattle.transform.specs.Lanes.{imageAt, laneShift, Shifted, InLanes, Evaluated, Interpolated}
 
+pub next-pow : (i : ℕ) → 2 ^ (i + 1) ≡ 2 ^ i + 2 ^ i
+next-pow i = ap (λ (k : ℕ). 2 ^ k) (add-one i) ∙ pow-suc 2 i ∙ omega arith
+
 pub half-pow : (m : ℕ) → 0 < m → 2 ^ m ≡ 2 ^ (m - 1) + 2 ^ (m - 1)
-half-pow m h = ap (λ (i : ℕ). 2 ^ i) {x = m} {y = suc (m - 1)} (omega arith) ∙ pow-suc 2 (m - 1) ∙ omega arith
+half-pow m h = ap (λ (i : ℕ). 2 ^ i) {x = m} {y = m - 1 + 1} (omega arith) ∙ next-pow (m - 1)
 
 -- ---- no layer
 

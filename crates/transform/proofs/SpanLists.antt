@@ -4,8 +4,6 @@ use mathlib.Core.Logic.{inl, inr}
 use mathlib.Core.List.{List}
 use Prim.Native.Nat.{ℕ, _+_, _-_, _*_, _^_, _≤_, _<_}
 use native.Mathlib.Decide.{decLt}
-use native.Mathlib.Numerals.{add-one}
-use native.Mathlib.Nat.{pow-suc}
 use native.Mathlib.Omega.{arith}
 use borrow.Rule.Slice.PartMut.{putMid}
 use lib.ListN.{length, getD, set}
@@ -18,11 +16,9 @@ use Rattle.field.specs.Binary.{_⊕_, Irreducible}
 use Rattle.field.specs.Symbols.{symbols, symbols-field}
 use Rattle.poly.specs.Span.{elem, elem-zero}
 use Rattle.poly.specs.Novel.{elem-high}
+use Rattle.transform.proofs.Halves.{next-pow}
 use Rattle.transform.specs.Lanes.{imageAt}
 use Rattle.transform.specs.Spans.{Zeros, imageList, SpanList, SpanLanes}
-
-pub next-pow : (i : ℕ) → 2 ^ (i + 1) ≡ 2 ^ i + 2 ^ i
-next-pow i = ap (λ (k : ℕ). 2 ^ k) (add-one i) ∙ pow-suc 2 i ∙ omega arith
 
 -- ---- one list
 

@@ -5,8 +5,9 @@ use native.Mathlib.Omega.{arith}
 use lib.ListN.{length, length-set}
 use lib.Pow.{pow-pos, pow-mono}
 use Rattle.transform.specs.Spans.{SpanList}
+use Rattle.transform.proofs.Halves.{next-pow}
 use Rattle.transform.proofs.Layers.{power}
-use Rattle.transform.proofs.SpanLists.{next-pow, span-none, span-next}
+use Rattle.transform.proofs.SpanLists.{span-none, span-next}
 use Rattle.transform.proofs.spans.span_list.Statement.{statement}
 use Rattle.transform.proofs.spans.span_list.Tie as tie
 

@@ -1,0 +1,199 @@
+-- What an accepted file holds. Assumes nothing.
+use mathlib.Core.Path.{_≡_, refl, sym, ap, _∙_, subst}
+use mathlib.Core.Logic.{_⊎_, inl, inr}
+use mathlib.Core.List.{List, [], _∷_, _++_}
+use Prim.Native.Nat.{ℕ, _+_, _*_, _^_, _≤_, _<_}
+use native.Mathlib.Omega.{arith}
+use lib.ListN.{length}
+use Rattle.lists.specs.Answers.{Answers, Passes, Numbered, answers-after, refused-first, answers-one, passes-each}
+use Rattle.field.specs.Binary.{degree}
+use Rattle.field.specs.Calls.{modulus-numbered}
+use Rattle.field.specs.Checks.{modulusChecks, good-passes, not-less}
+use Rattle.space.specs.Ready.{Ready, ready}
+use Rattle.space.specs.Setting.{maxDim, spanChecks, SettledBy, settingOf}
+use Rattle.space.specs.Sound.{Sound, sound, sound-passes}
+use Rattle.space.specs.declared.Checked.{Checked}
+use Rattle.space.specs.declared.Setting.{Setting}
+use Rattle.proximity.specs.Dim.{S}
+use Rattle.stored.specs.File.{wordRecordAt, wordAt, proofRecordAt, proofAt, fileEnd, modulusIn, dimIn, basisIn}
+use Rattle.stored.specs.Passed.{Head, head-numbered, head-passed, head-passes, length-basis, Held, record-numbered, record-passed, record-passes}
+use Rattle.stored.specs.Reader.{headChecks, basisChecks, settingChecks, wordChecks, proofChecks, symbolChecks, prefixChecks, fileChecks, readOf, noRead, Told}
+use Rattle.stored.specs.declared.Reading.{Reading}
+
+-- the records of the setting, the word and the proof
+pub record Prefix (f : List ℕ) : Type 0 where
+  pub head : Head f
+  pub setting : Sound (modulusIn f) (basisIn f)
+  pub word : Held f (wordRecordAt (dimIn f)) 87 79 (2 ^ dimIn f) (degree (modulusIn f))
+  pub proof : Held f (proofRecordAt (dimIn f)) 80 70 (S (dimIn f)) (degree (modulusIn f))
+
+-- and nothing after them
+pub record Accepted (f : List ℕ) : Type 0 where
+  pub records : Prefix f
+  pub whole : length f ≡ fileEnd (dimIn f)
+
+pub setting-numbered : (f : List ℕ) → Numbered (settingChecks f)
+setting-numbered f = (omega arith, (omega arith, (omega arith, (omega arith, (omega arith, (omega arith, (omega arith, tt)))))))
+
+module _ (f : List ℕ) where
+  in-range : Head f → (length (basisIn f) < 3) ⊎ (maxDim < length (basisIn f)) → ⊥
+  in-range t (inl e) = omega (arith, t .low, length-basis f)
+  in-range t (inr e) = omega (arith, t .high, length-basis f)
+
+  sound-after : Head f → Passes (basisChecks f) → Sound (modulusIn f) (basisIn f)
+  sound-after t p =
+      sound (modulusIn f) (basisIn f)
+      (answers-after (modulusChecks (modulusIn f)) (Rattle.space.specs.Setting.basisChecks (modulusIn f) (basisIn f) ++ spanChecks (modulusIn f) (basisIn f)) 0
+      (modulus-numbered (modulusIn f)) (good-passes (modulusIn f) (t .modulus)) (inr (in-range t, p)))
+
+  pub setting-passed : Passes (settingChecks f) → Head f × Sound (modulusIn f) (basisIn f)
+  setting-passed p =
+      let parts = passes-each (headChecks f) (basisChecks f) (head-numbered f) p in
+      let t = head-passed f (parts .0) in
+      (t, sound-after t (parts .1))
+
+  pub setting-passes : Head f → Sound (modulusIn f) (basisIn f) → Passes (settingChecks f)
+  setting-passes t s =
+      answers-after (headChecks f) (basisChecks f) 0 (head-numbered f) (head-passes f t)
+      (inr ((λ n. n (s .basis .elements)), inr ((λ n. n (s .basis .independent)), refl)))
+
+  -- the setting that was read
+  pub read-setting : (c : Checked) → SettledBy (settingChecks f) (modulusIn f) (basisIn f) c → c .refusal ≡ 0
+      → Passes (settingChecks f) × (c .setting ≡ settingOf (modulusIn f) (basisIn f)) × Ready (modulusIn f) (basisIn f) (c .setting)
+  read-setting c (inl (p, z, e)) h =
+      (p, e, ready (modulusIn f) (basisIn f) c (inl (sound-passes (modulusIn f) (basisIn f) (setting-passed p .1), z, e)) h)
+  read-setting c (inr ((l, a), e)) h = absurd (omega arith)
+
+  abbrev k : ℕ
+  k = dimIn f
+
+  abbrev l : ℕ
+  l = degree (modulusIn f)
+
+  word-numbered : Numbered (wordChecks f k l)
+  word-numbered = record-numbered f (wordRecordAt k) 87 79 (2 ^ k) l
+
+  pub prefix-passed : Passes (prefixChecks f) → Prefix f
+  prefix-passed p =
+      let parts = passes-each (settingChecks f) (symbolChecks f k l) (setting-numbered f) p in
+      let two = passes-each (wordChecks f k l) (proofChecks f k l) word-numbered (parts .1) in
+      record {
+        head = setting-passed (parts .0) .0;
+        setting = setting-passed (parts .0) .1;
+        word = record-passed f (wordRecordAt k) 87 79 (2 ^ k) l (two .0);
+        proof = record-passed f (proofRecordAt k) 80 70 (S k) l (two .1);
+      }
+
+  pub prefix-passes : Prefix f → Passes (prefixChecks f)
+  prefix-passes r =
+      answers-after (settingChecks f) (symbolChecks f k l) 0 (setting-numbered f) (setting-passes (r .head) (r .setting))
+      (answers-after (wordChecks f k l) (proofChecks f k l) 0 word-numbered (record-passes f (wordRecordAt k) 87 79 (2 ^ k) l (r .word))
+      (record-passes f (proofRecordAt k) 80 70 (S k) l (r .proof)))
+
+  pub prefix-numbered : Numbered (prefixChecks f)
+  prefix-numbered = (
+    omega arith,
+    (
+      omega arith,
+      (
+        omega arith,
+        (
+          omega arith,
+          (
+            omega arith,
+            (
+              omega arith,
+              (
+                omega arith,
+                (omega arith, (omega arith, (omega arith, (omega arith, (omega arith, (omega arith, (omega arith, (omega arith, tt)))))))),
+              ),
+            ),
+          ),
+        ),
+      ),
+    ),
+  )
+
+  pub accepted : Passes (fileChecks f) → Accepted f
+  accepted p = go (passes-each (prefixChecks f) ((12, fileEnd k < length f) ∷ []) prefix-numbered p)
+    where
+      go : Passes (prefixChecks f) × Passes ((12, fileEnd k < length f) ∷ []) → Accepted f
+      go (q, inl a) = absurd (omega arith)
+      go (q, inr (a, z)) =
+          let r = prefix-passed q in record { records = r; whole = omega (arith, not-less a, r .proof .present) }
+
+  pub accepted-passes : Accepted f → Passes (fileChecks f)
+  accepted-passes a =
+      answers-after (prefixChecks f) ((12, fileEnd k < length f) ∷ []) 0 prefix-numbered (prefix-passes (a .records))
+      (inr ((λ h. omega (arith, a .whole)), refl))
+
+  -- ---- what the reader told
+
+  module _ (cs : List (ℕ × Type 0)) (r : Reading) where
+    pub told-accepted : Told cs f r → r .refusal ≡ 0 → Passes cs × (r ≡ readOf f)
+    told-accepted (inl t) z = t
+    told-accepted (inr ((p, a), e)) z = absurd (omega arith)
+
+    pub told-refused : Told cs f r → (r .refusal ≡ 0 → ⊥) → Passes cs → ⊥
+    unfolding readOf
+    told-refused (inl (p, e)) n q = n (ap (λ (x : Reading). x .refusal) e)
+    told-refused (inr ((p, a), e)) n q = n (answers-one cs a q)
+
+    pub told-number : (n : ℕ) → 0 < n → Answers cs n → r ≡ noRead n → Told cs f r
+    unfolding noRead
+    told-number n h a e =
+        let same : r .refusal ≡ n = ap (λ (x : Reading). x .refusal) e in
+        inr ((omega arith, subst (Answers cs) (sym same) a), e ∙ ap noRead (sym same))
+
+  -- the last check, past the records
+  abbrev last : List (ℕ × Type 0)
+  last = (12, fileEnd k < length f) ∷ []
+
+  pub told-prefix-refused : (r : Reading) → Told (prefixChecks f) f r → (r .refusal ≡ 0 → ⊥) → Told (fileChecks f) f r
+  told-prefix-refused r (inl (p, e)) n = absurd (told-refused (prefixChecks f) r (inl (p, e)) n p)
+  told-prefix-refused r (inr ((h, a), e)) n = inr ((h, refused-first (prefixChecks f) last (r .refusal) h a), e)
+
+  module _ (r : Reading) (t : Told (prefixChecks f) f r) (z : r .refusal ≡ 0) where
+    pub told-end : r .end ≡ fileEnd k
+    unfolding readOf
+    told-end = ap (λ (x : Reading). x .end) (told-accepted (prefixChecks f) r t z .1)
+
+    pub told-longer : (s : Reading) → fileEnd k < length f → s ≡ noRead 12 → Told (fileChecks f) f s
+    told-longer s h e =
+        told-number (fileChecks f) s 12 (omega arith)
+        (answers-after (prefixChecks f) last 12 prefix-numbered (told-accepted (prefixChecks f) r t z .0) (inl (h, refl))) e
+
+    pub told-whole : length f ≤ fileEnd k → Told (fileChecks f) f r
+    told-whole h =
+        let a = told-accepted (prefixChecks f) r t z in
+        inl (answers-after (prefixChecks f) last 0 prefix-numbered (a .0) (inr ((λ l. omega arith), refl)), a .1)
+
+  -- the places of an accepted file
+  pub record Places (r : Reading) : Type 0 where
+    pub word : r .word ≡ wordAt k
+    pub proof : r .proof ≡ proofAt k
+    pub end : r .end ≡ fileEnd k
+    pub whole : length f ≡ fileEnd k
+
+  pub read-places : (r : Reading) → Told (fileChecks f) f r → r .refusal ≡ 0 → Places r
+  unfolding readOf
+  read-places r t z =
+      let a = told-accepted (fileChecks f) r t z in
+      record {
+        word = ap (λ (x : Reading). x .word) (a .1);
+        proof = ap (λ (x : Reading). x .proof) (a .1);
+        end = ap (λ (x : Reading). x .end) (a .1);
+        whole = accepted (a .0) .whole;
+      }
+
+  -- the reading of the setting s, with the places as they are computed
+  pub read-made : (s : Setting) (j n q : ℕ) → s ≡ settingOf (modulusIn f) (basisIn f) → j ≡ k → n ≡ 2 ^ j → q ≡ S j
+      → record { refusal = 0; setting = s; word = 13 + 2 * j; proof = 13 + 2 * j + 2 * n + 6; end = 13 + 2 * j + 2 * n + 6 + 2 * q } ≡ readOf f
+  unfolding readOf
+  read-made s j n q es ej en eq =
+      let pn : n ≡ 2 ^ k = en ∙ ap (λ (x : ℕ). 2 ^ x) ej in
+      let pq : q ≡ S k = eq ∙ ap S ej in
+      let ew : 13 + 2 * j ≡ wordAt k = omega arith in
+      let ep : 13 + 2 * j + 2 * n + 6 ≡ proofAt k = omega arith in
+      let ee : 13 + 2 * j + 2 * n + 6 + 2 * q ≡ fileEnd k = omega arith in
+      λ i. record { refusal = 0; setting = es i; word = ew i; proof = ep i; end = ee i }

@@ -1,0 +1,125 @@
+-- The answer over stored bytes, from the reading and the verdict. Assumes nothing.
+use mathlib.Core.Path.{_≡_, refl, sym, ap, _∙_, subst, transport}
+use mathlib.Core.Logic.{inl, inr}
+use mathlib.Core.List.{List, [], _∷_}
+use Prim.Native.Nat.{ℕ, _^_, _≤_, _<_}
+use native.Mathlib.Omega.{arith}
+use lib.ListN.{length}
+use Rattle.lists.specs.All.{Below}
+use Rattle.lists.specs.Answers.{Checks, Passes, Refuses, Numbered, answers-after, refused-first, numbered-append}
+use Rattle.field.specs.Binary.{degree, Irreducible}
+use Rattle.field.specs.Laws.{Ops}
+use Rattle.field.specs.Symbols.{symbols}
+use Rattle.poly.specs.Codeword.{Basis}
+use Rattle.space.specs.Images.{Images}
+use Rattle.space.specs.Ready.{Ready, ready}
+use Rattle.space.specs.Sound.{sound-passes}
+use Rattle.proximity.specs.Dim.{S, R}
+use Rattle.verifier.specs.Checker.{Answered}
+use Rattle.verifier.specs.Parts.{InSpace}
+use Rattle.verifier.specs.declared.Verdict.{Verdict}
+use Rattle.verifier.specs.declared.Verdict.the-variants.{Accept, Reject, Refused}
+use Rattle.stored.specs.Accepted.{Accepted, accepted, prefix-numbered, Places, read-places, told-accepted}
+use Rattle.stored.specs.Bytes.{numbersAt}
+use Rattle.stored.specs.Check.{coinChecks, AnsweredFile, Laid, Judged}
+use Rattle.stored.specs.File.{fileEnd, modulusIn, dimIn, basisIn, wordIn, proofIn}
+use Rattle.stored.specs.Passed.{length-basis}
+use Rattle.stored.specs.Reader.{prefixChecks, fileChecks, readOf, Told}
+use Rattle.stored.specs.declared.Reading.{Reading}
+
+-- ---- the checks
+
+module _ (f : List ℕ) (coin : ℕ) where
+  abbrev eight : Checks
+  eight = (8, 2 ^ R (dimIn f) ≤ coin) ∷ []
+
+  file-numbered : Numbered (fileChecks f)
+  file-numbered = numbered-append (prefixChecks f) ((12, fileEnd (dimIn f) < length f) ∷ []) (prefix-numbered f) (omega arith, tt)
+
+  -- a refused file, and a coin out of range
+  pub refused-file : (r : Reading) → Told (fileChecks f) f r → (r .refusal ≡ 0 → ⊥) → Refuses (coinChecks f coin) (r .refusal)
+  unfolding readOf
+  refused-file r (inl (p, e)) n = absurd (n (ap (λ (x : Reading). x .refusal) e))
+  refused-file r (inr ((l, a), e)) n = (l, refused-first (fileChecks f) eight (r .refusal) l a)
+
+  pub refused-coin : Passes (fileChecks f) → 2 ^ R (dimIn f) ≤ coin → Refuses (coinChecks f coin) 8
+  refused-coin p h = (omega arith, answers-after (fileChecks f) eight 8 file-numbered p (inl (h, refl)))
+
+  pub coin-passes : Passes (fileChecks f) → coin < 2 ^ R (dimIn f) → Passes (coinChecks f coin)
+  coin-passes p h = answers-after (fileChecks f) eight 0 file-numbered p (inr ((λ l. omega arith), refl))
+
+-- the verdict, past the checks
+pub judged-answer : (cs : Checks) (K : Ops) (k : ℕ) (b w π : List ℕ) (coin : ℕ) (v : Verdict) → Passes cs → Judged K k b w π coin v → Answered cs K k b w π coin v
+judged-answer cs K k b w π coin (Accept n) p (e, a) = (p, e, a)
+judged-answer cs K k b w π coin (Reject n) p (e, a) = (p, e, a)
+judged-answer cs K k b w π coin (Refused n) p j = absurd j
+
+-- ---- an accepted file
+
+module _ (f : List ℕ) (r : Reading) (t : Told (fileChecks f) f r) (z : r .refusal ≡ 0) where
+  pub read-passes : Passes (fileChecks f)
+  read-passes = told-accepted f (fileChecks f) r t z .0
+
+  held : Accepted f
+  held = accepted f read-passes
+
+  places : Places f r
+  places = read-places f r t z
+
+  pub read-ready : Ready (modulusIn f) (basisIn f) (r .setting)
+  unfolding readOf
+  read-ready =
+      ready (modulusIn f) (basisIn f) (record { refusal = 0; setting = r .setting })
+      (inl (sound-passes (modulusIn f) (basisIn f) (held .records .setting), refl, ap (λ (x : Reading). x .setting) (told-accepted f (fileChecks f) r t z .1))) refl
+
+  modulus : r .setting .field .modulus ≡ modulusIn f
+  modulus = read-ready .modulus
+
+  pub read-dimension : r .setting .space .k ≡ dimIn f
+  read-dimension = read-ready .dimension ∙ length-basis f
+
+  -- what the verdict asks
+  pub read-basis : Basis (symbols (r .setting .field .modulus)) (r .setting .space .k) (basisIn f)
+  read-basis =
+      subst (λ (q : ℕ). Basis (symbols q) (r .setting .space .k) (basisIn f)) (sym modulus)
+      (subst (λ (k : ℕ). Basis (symbols (modulusIn f)) k (basisIn f)) (sym (read-ready .dimension)) (read-ready .sound .basis))
+
+  pub read-images : Images (symbols (r .setting .field .modulus)) (basisIn f) (r .setting .space .images)
+  read-images = subst (λ (q : ℕ). Images (symbols q) (basisIn f) (r .setting .space .images)) (sym modulus) (read-ready .images)
+
+  pub read-space : InSpace (r .setting .field) (r .setting .space .k) (r .setting .space .images)
+  read-space =
+      record {
+        sized = read-ready .sized;
+        irreducible = subst Irreducible (sym modulus) (read-ready .sound .modulus .irreducible);
+        low = omega (arith, read-ready .dimension, read-ready .sound .low);
+        high = omega (arith, read-ready .dimension, read-ready .sound .high);
+        basis = basisIn f;
+        right = read-basis;
+        table = read-images;
+      }
+
+  pub read-laid : Laid f (r .setting .space .k) (r .word) (r .proof)
+  read-laid =
+      subst (λ (k : ℕ). Laid f k (r .word) (r .proof)) (sym read-dimension)
+      (record {
+        few = held .records .head .high;
+        word-fits = omega (arith, places .word, held .records .word .present);
+        proof-fits = omega (arith, places .proof, held .records .proof .present);
+      })
+
+  pub read-below : Below (2 ^ degree (r .setting .field .modulus)) (numbersAt f (r .word) (2 ^ r .setting .space .k))
+      × Below (2 ^ degree (r .setting .field .modulus)) (numbersAt f (r .proof) (S (r .setting .space .k)))
+  read-below = (
+    transport (λ i. Below (2 ^ degree (sym modulus i)) (numbersAt f (sym (places .word) i) (2 ^ sym read-dimension i))) (held .records .word .symbols),
+    transport (λ i. Below (2 ^ degree (sym modulus i)) (numbersAt f (sym (places .proof) i) (S (sym read-dimension i)))) (held .records .proof .symbols),
+  )
+
+  -- the verdict is that on the word and the proof of the file
+  pub read-answer : (coin : ℕ) → coin < 2 ^ R (dimIn f) → (v : Verdict)
+      → Judged (symbols (r .setting .field .modulus)) (r .setting .space .k) (basisIn f) (numbersAt f (r .word) (2 ^ r .setting .space .k)) (numbersAt f (r .proof) (S (r .setting .space .k))) coin v
+      → AnsweredFile f coin v
+  unfolding wordIn proofIn
+  read-answer coin h v j =
+      judged-answer (coinChecks f coin) (symbols (modulusIn f)) (dimIn f) (basisIn f) (wordIn f) (proofIn f) coin v (coin-passes f coin read-passes h)
+      (transport (λ i. Judged (symbols (modulus i)) (read-dimension i) (basisIn f) (numbersAt f (places .word i) (2 ^ read-dimension i)) (numbersAt f (places .proof i) (S (read-dimension i))) coin v) j)

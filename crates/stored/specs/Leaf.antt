@@ -1,0 +1,119 @@
+-- The space at which a coin ends, by its table. Assumes nothing.
+use mathlib.Core.Path.{_≡_, refl, sym, ap, _∙_, subst, transport}
+use mathlib.Core.Bool.{Bool, true, false}
+use mathlib.Core.List.{List, [], _∷_, map}
+use Prim.Native.Nat.{ℕ, _+_, _*_, _/_, _%_, _^_, _≤_, _<_}
+use native.Mathlib.Omega.{arith}
+use lib.Dec.{ltb, eqb}
+use lib.ListN.{length, getD}
+use Rattle.lists.specs.All.{Below, All-at}
+use Rattle.lists.specs.Decides.{Decides, decides-same}
+use Rattle.lists.specs.Pick.{pick}
+use Rattle.lists.specs.Tables.{tab, length-tab}
+use Rattle.field.specs.Binary.{Irreducible}
+use Rattle.field.specs.Laws.{Ops}
+use Rattle.field.specs.Symbols.{symbols, symbols-field}
+use Rattle.poly.specs.Codeword.{Basis, Codeword}
+use Rattle.space.specs.Images.{Images}
+use Rattle.proximity.specs.ByLine.{lineDim, lineBasis}
+use Rattle.proximity.specs.Dim.{half, colDim, Dim, leaf, node, dim, S}
+use Rattle.proximity.specs.LineImages.{elementImages, rowImages, columnImages, LineTable}
+use Rattle.proximity.specs.LineLaws.{line-in-range, line-basis}
+use Rattle.proximity.specs.Places.{leafDim-leaf, leafBasis-leaf, leafDim-row, leafDim-column, leafBasis-row, leafBasis-column}
+use Rattle.proximity.specs.Lines.{line-cases}
+use Rattle.proximity.specs.Reads.{leafDim, leafBasis, reads}
+use Rattle.proximity.specs.Verifier.{lineOf, bitsLeft, byLine, Accepts, readAt}
+use Rattle.proximity.specs.declared.Line.{Line}
+use Rattle.proximity.specs.declared.Line.the-variants.{Row, Column}
+use Rattle.proximity.specs.declared.Place.{Place}
+use Rattle.proximity.specs.declared.Place.the-variants.{InWord, InProof}
+use Rattle.verifier.specs.Checker.{symbolsAt}
+
+-- j is the dimension of the space at which the coin ends, and where t is the table of a space of dimension k, u is that of the last space
+pub record LeafTable (k : ℕ) (t : List ℕ) (coin j : ℕ) (u : List ℕ) : Type 0 where
+  pub dimension : j ≡ leafDim (dim k) coin
+  pub right : (m : ℕ) → Irreducible m → (b : List ℕ) → Basis (symbols m) k b → Images (symbols m) b t → Images (symbols m) (leafBasis (symbols m) (dim k) b coin) u
+
+-- on the way: the bits `rest` lead on from dimension j and the table u
+pub record Leads (k : ℕ) (t : List ℕ) (coin j : ℕ) (u : List ℕ) (rest : ℕ) : Type 0 where
+  pub count : length u ≡ 192
+  pub dimension : leafDim (dim j) rest ≡ leafDim (dim k) coin
+  pub right : (m : ℕ) → Irreducible m → (b : List ℕ) → Basis (symbols m) k b → Images (symbols m) b t
+      → (c : List ℕ) × (Basis (symbols m) j c × (Images (symbols m) c u × (leafBasis (symbols m) (dim j) c rest ≡ leafBasis (symbols m) (dim k) b coin)))
+
+pub leads-none : (k : ℕ) (t : List ℕ) (coin : ℕ) → length t ≡ 192 → Leads k t coin k t coin
+leads-none k t coin e = record { count = e; dimension = refl; right = λ m i b B I. (b, (B, (I, refl))) }
+
+-- ---- one line further
+
+length-row-table : (k : ℕ) (t : List ℕ) (r : ℕ) → length t ≡ 192 → length (rowImages k t r) ≡ 192
+unfolding rowImages pick
+length-row-table k t r e =
+    by (ltb r 4) (λ p. pick (eqb (p / 16) (half k + 2)) (getD (elementImages (half k) (colDim k) t r) (p % 16) 0) (getD t p 0))
+  where
+    by : (s : Bool) (g : ℕ → ℕ) → length (pick s t (tab 192 g)) ≡ 192
+    by true g = e
+    by false g = length-tab 192 g
+
+length-column-table : (k : ℕ) (t : List ℕ) → length (columnImages k t) ≡ 192
+unfolding columnImages
+length-column-table k t = length-tab 192 (λ p. getD t (p + 17 * half k) 0)
+
+length-line-table : (k : ℕ) (t : List ℕ) (l : Line) (r : List ℕ) → length t ≡ 192 → LineTable k t l r → length r ≡ 192
+length-line-table k t (Row a) r e T = ap length (T .entries) ∙ length-row-table k t a e
+length-line-table k t (Column a) r e T = ap length (T .entries) ∙ length-column-table k t
+
+module _ (k coin : ℕ) (s : 7 ≤ k) where
+  leafDim-line : (l : Line) → lineOf k coin ≡ l → leafDim (dim k) coin ≡ leafDim (dim (lineDim k l)) (bitsLeft k coin)
+  leafDim-line (Row r) e = leafDim-row k coin s r e
+  leafDim-line (Column a) e = leafDim-column k coin s a e
+
+  leafBasis-line : (K : Ops) (b : List ℕ) (l : Line) → lineOf k coin ≡ l → leafBasis K (dim k) b coin ≡ leafBasis K (dim (lineDim k l)) (lineBasis K k b l) (bitsLeft k coin)
+  leafBasis-line K b (Row r) e = leafBasis-row k coin s r e K b
+  leafBasis-line K b (Column a) e = leafBasis-column k coin s a e K b
+
+pub leads-line : {k : ℕ} {t : List ℕ} {coin j : ℕ} {u : List ℕ} {rest : ℕ} → 7 ≤ j → Leads k t coin j u rest → (v : List ℕ) → LineTable j u (lineOf j rest) v
+    → Leads k t coin (lineDim j (lineOf j rest)) v (bitsLeft j rest)
+leads-line {k} {t} {coin} {j} {u} {rest} s a v T =
+    record {
+      count = length-line-table j u (lineOf j rest) v (a .count) T;
+      dimension = sym (leafDim-line j rest s (lineOf j rest) refl) ∙ a .dimension;
+      right = λ m i b B I.
+          let (c, (C, (J, e))) = a .right m i b B I in (
+            lineBasis (symbols m) j c (lineOf j rest),
+            (
+              line-basis j s (symbols-field m i) c C (lineOf j rest) (line-in-range j rest),
+              (T .right m i c C J, sym (leafBasis-line j rest s (symbols m) c (lineOf j rest) refl) ∙ e),
+            ),
+          );
+    }
+
+-- the last space
+pub leads-leaf : {k : ℕ} {t : List ℕ} {coin j : ℕ} {u : List ℕ} {rest : ℕ} → j ≤ 6 → Leads k t coin j u rest → LeafTable k t coin j u
+leads-leaf {k} {t} {coin} {j} {u} {rest} s a =
+    record {
+      dimension = sym (leafDim-leaf j rest s) ∙ a .dimension;
+      right = λ m i b B I.
+          let (c, (C, (J, e))) = a .right m i b B I in
+          subst (λ (x : List ℕ). Images (symbols m) x u) (sym (leafBasis-leaf (symbols m) j rest s c) ∙ e) J;
+    }
+
+-- ---- the verdict there
+
+pub leaf-low : {k : ℕ} (d : Dim k) (coin : ℕ) → 3 ≤ k → 3 ≤ leafDim d coin
+leaf-low (leaf s) coin h = h
+leaf-low (node {k = k} s rows cols) coin h =
+    line-cases k coin (λ l i. 3 ≤ byLine l (λ r. leafDim rows i) (λ a. leafDim cols i)) (λ r i l. leaf-low rows i (omega arith)) (λ a i l. leaf-low cols i (omega arith))
+
+-- the symbols read of symbols are symbols
+pub symbols-below : (n : ℕ) (w π : List ℕ) → 0 < n → Below n w → Below n π → (ps : List Place) → Below n (map (readAt w π) ps)
+symbols-below n w π z hw hp [] = tt
+symbols-below n w π z hw hp (InWord i ∷ ps) = (All-at (λ (x : ℕ). x < n) w 0 hw z i, symbols-below n w π z hw hp ps)
+symbols-below n w π z hw hp (InProof i ∷ ps) = (All-at (λ (x : ℕ). x < n) π 0 hp z i, symbols-below n w π z hw hp ps)
+
+-- a test of the symbols read decides acceptance
+pub decides-accepts : (K : Ops) (k : ℕ) (b w π : List ℕ) → length w ≡ 2 ^ k → length π ≡ S k → (coin : ℕ) (r : Bool)
+    → Decides r (Codeword K (leafDim (dim k) coin) (leafBasis K (dim k) b coin) (symbolsAt k w π coin)) → Decides r (Accepts K (dim k) b w π coin)
+decides-accepts K k b w π lw lp coin r d =
+    decides-same (Codeword K (leafDim (dim k) coin) (leafBasis K (dim k) b coin) (symbolsAt k w π coin)) (Accepts K (dim k) b w π coin)
+    (transport (sym (reads K (dim k) b w π lw lp coin))) (transport (reads K (dim k) b w π lw lp coin)) d

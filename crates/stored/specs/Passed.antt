@@ -1,0 +1,138 @@
+-- What the checks of a stored file say where they pass, part by part. Assumes nothing.
+use mathlib.Core.Path.{_≡_, refl}
+use mathlib.Core.Logic.{_⊎_, inl, inr}
+use mathlib.Core.List.{List}
+use Prim.Native.Nat.{ℕ, _+_, _*_, _^_, _≤_, _<_}
+use native.Mathlib.Decide.{decLe, ℕ-discrete}
+use native.Mathlib.Omega.{arith}
+use lib.ListN.{length, getD}
+use Rattle.lists.specs.All.{Below, below-stable}
+use Rattle.lists.specs.Answers.{Answers, Passes, Numbered, answers-after, refused-first, passes-each}
+use Rattle.lists.specs.Tables.{length-tab}
+use Rattle.field.specs.Calls.{modulus-numbered}
+use Rattle.field.specs.Checks.{modulusChecks, GoodModulus, modulus-passed, good-passes, not-less}
+use Rattle.space.specs.Setting.{maxDim, SettledBy, Settled}
+use Rattle.space.specs.Sound.{Sound, sound}
+use Rattle.space.specs.declared.Checked.{Checked}
+use Rattle.stored.specs.Bytes.{twoAt, fourAt, numbersAt}
+use Rattle.stored.specs.File.{wordRecordAt, modulusIn, dimIn, basisIn, Opens}
+use Rattle.stored.specs.Reader.{lateChecks, headChecks, basisChecks, settingChecks, recordChecks}
+
+opens-stable : (f : List ℕ) (p n a b : ℕ) → ((Opens f p n a b → ⊥) → ⊥) → Opens f p n a b
+opens-stable f p n a b g =
+    record {
+      present = by-le (decLe (p + n) (length f)) (λ k. g (λ o. k (o .present)));
+      first = by-eq (ℕ-discrete (getD f p 0) a) (λ k. g (λ o. k (o .first)));
+      second = by-eq (ℕ-discrete (getD f (p + 1) 0) b) (λ k. g (λ o. k (o .second)));
+    }
+  where
+    by-le : {x y : ℕ} → Dec (x ≤ y) → ((x ≤ y → ⊥) → ⊥) → x ≤ y
+    by-le (yes h) k = h
+    by-le (no h) k = absurd (k h)
+
+    by-eq : {x y : ℕ} → Dec (x ≡ y) → ((x ≡ y → ⊥) → ⊥) → x ≡ y
+    by-eq (yes h) k = h
+    by-eq (no h) k = absurd (k h)
+
+pub eq-stable : (x y : ℕ) → ((x ≡ y → ⊥) → ⊥) → x ≡ y
+eq-stable x y k = by (ℕ-discrete x y)
+  where
+    by : Dec (x ≡ y) → x ≡ y
+    by (yes h) = h
+    by (no h) = absurd (k h)
+
+-- ---- the setting record
+
+-- up to the presence of the basis
+pub record Head (f : List ℕ) : Type 0 where
+  pub opened : Opens f 0 7 83 69
+  pub modulus : GoodModulus (modulusIn f)
+  pub low : 3 ≤ dimIn f
+  pub high : dimIn f ≤ maxDim
+  pub basis : wordRecordAt (dimIn f) ≤ length f
+
+pub head-numbered : (f : List ℕ) → Numbered (headChecks f)
+head-numbered f = (omega arith, (omega arith, (omega arith, (omega arith, (omega arith, tt)))))
+
+pub length-basis : (f : List ℕ) → length (basisIn f) ≡ dimIn f
+unfolding basisIn
+length-basis f = length-tab (dimIn f) (λ i. twoAt f (7 + 2 * i))
+
+module _ (f : List ℕ) where
+  pub head-passed : Passes (headChecks f) → Head f
+  head-passed (inl a) = absurd (omega arith)
+  head-passed (inr (o, r)) = go (passes-each (modulusChecks (modulusIn f)) (lateChecks f) (modulus-numbered (modulusIn f)) r)
+    where
+      go : Passes (modulusChecks (modulusIn f)) × Passes (lateChecks f) → Head f
+      go (q, inl a) = absurd (omega arith)
+      go (q, inr (a, inl b)) = absurd (omega arith)
+      go (q, inr (a, inr b)) =
+          record {
+            opened = opens-stable f 0 7 83 69 o;
+            modulus = modulus-passed (modulusIn f) q;
+            low = not-less (λ h. a (inl h));
+            high = not-less (λ h. a (inr h));
+            basis = not-less (b .0);
+          }
+
+  -- the answers on the way, past the mark
+  module _ (o : Opens f 0 7 83 69) where
+    pub head-modulus : (r : ℕ) → 0 < r → Answers (modulusChecks (modulusIn f)) r → Answers (headChecks f) r
+    head-modulus r l a = inr ((λ g. g o), refused-first (modulusChecks (modulusIn f)) (lateChecks f) r l a)
+
+    pub head-late : (r : ℕ) → Passes (modulusChecks (modulusIn f)) → Answers (lateChecks f) r → Answers (headChecks f) r
+    head-late r p a = inr ((λ g. g o), answers-after (modulusChecks (modulusIn f)) (lateChecks f) r (modulus-numbered (modulusIn f)) p a)
+
+  pub head-in : 3 ≤ dimIn f → dimIn f ≤ maxDim → (dimIn f < 3) ⊎ (maxDim < dimIn f) → ⊥
+  head-in l h (inl a) = omega arith
+  head-in l h (inr a) = omega arith
+
+  pub head-passes : Head f → Passes (headChecks f)
+  head-passes h = head-late (h .opened) 0 (good-passes (modulusIn f) (h .modulus)) (inr (head-in (h .low) (h .high), inr ((λ l. omega (arith, h .basis)), refl)))
+
+  -- past the head the checks of the setting go on at 4
+  module _ (h : Head f) where
+    from-four : (r : ℕ) → 0 < r → Answers (Rattle.space.specs.Setting.settingChecks (modulusIn f) (basisIn f)) r → Answers (basisChecks f) r
+    from-four r l (inl a) = absurd (head-modulus-good (a .0))
+      where
+        head-modulus-good : (modulusIn f < 8) ⊎ (131071 < modulusIn f) → ⊥
+        head-modulus-good (inl b) = omega (arith, h .modulus .low)
+        head-modulus-good (inr b) = omega (arith, h .modulus .high)
+    from-four r l (inr (a, inl b)) = absurd (b .0 (h .modulus .irreducible))
+    from-four r l (inr (a, inr (b, inl d))) = absurd (outside (d .0))
+      where
+        outside : (length (basisIn f) < 3) ⊎ (maxDim < length (basisIn f)) → ⊥
+        outside (inl e) = omega (arith, h .low, length-basis f)
+        outside (inr e) = omega (arith, h .high, length-basis f)
+    from-four r l (inr (a, inr (b, inr (d, e)))) = e
+
+    pub settled-after-head : (c : Checked) → Settled (modulusIn f) (basisIn f) c → SettledBy (settingChecks f) (modulusIn f) (basisIn f) c
+    settled-after-head c (inl (p, z, e)) = inl (answers-after (headChecks f) (basisChecks f) 0 (head-numbered f) (head-passes h) ((inr ((λ n. n (s .basis .elements)), inr ((λ n. n (s .basis .independent)), refl)))), z, e)
+      where
+        s : Sound (modulusIn f) (basisIn f)
+        s = sound (modulusIn f) (basisIn f) p
+    settled-after-head c (inr ((l, a), e)) =
+        inr ((l, answers-after (headChecks f) (basisChecks f) (c .refusal) (head-numbered f) (head-passes h) (from-four (c .refusal) l a)), e)
+
+-- ---- a record of symbols
+
+pub record Held (f : List ℕ) (p a b n l : ℕ) : Type 0 where
+  pub opened : Opens f p 6 a b
+  pub count : fourAt f (p + 2) ≡ n
+  pub present : p + 6 + 2 * n ≤ length f
+  pub symbols : Below (2 ^ l) (numbersAt f (p + 6) n)
+
+module _ (f : List ℕ) (p a b n l : ℕ) where
+  pub record-numbered : Numbered (recordChecks f p a b n l)
+  record-numbered = (omega arith, (omega arith, (omega arith, (omega arith, tt))))
+
+  pub record-passed : Passes (recordChecks f p a b n l) → Held f p a b n l
+  record-passed (inl x) = absurd (omega arith)
+  record-passed (inr (o, inl x)) = absurd (omega arith)
+  record-passed (inr (o, inr (e, inl x))) = absurd (omega arith)
+  record-passed (inr (o, inr (e, inr (t, inl x)))) = absurd (omega arith)
+  record-passed (inr (o, inr (e, inr (t, inr (s, z))))) =
+      record { opened = opens-stable f p 6 a b o; count = eq-stable (fourAt f (p + 2)) n e; present = not-less t; symbols = below-stable (2 ^ l) (numbersAt f (p + 6) n) s }
+
+  pub record-passes : Held f p a b n l → Passes (recordChecks f p a b n l)
+  record-passes h = inr ((λ g. g (h .opened)), inr ((λ g. g (h .count)), inr ((λ t. omega (arith, h .present)), inr ((λ g. g (h .symbols)), refl))))

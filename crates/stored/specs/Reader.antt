@@ -1,0 +1,72 @@
+-- What the reader of a stored file answers: its checks, front to back, and then what was read. Definitions only.
+use mathlib.Core.Path.{_≡_}
+use mathlib.Core.Logic.{_⊎_}
+use mathlib.Core.List.{List, [], _∷_, _++_}
+use Prim.Native.Nat.{ℕ, _+_, _*_, _^_, _<_}
+use lib.ListN.{length, take, drop}
+use Rattle.lists.specs.All.{Below}
+use Rattle.lists.specs.Answers.{Checks, Passes, Refuses}
+use Rattle.field.specs.Binary.{degree}
+use Rattle.field.specs.Checks.{modulusChecks}
+use Rattle.field.specs.Symbols.{symbols}
+use Rattle.poly.specs.Span.{Independent}
+use Rattle.space.specs.Setting.{maxDim, settingOf, noSetting}
+use Rattle.proximity.specs.Dim.{S}
+use Rattle.stored.specs.Bytes.{fourAt, numbersAt}
+use Rattle.stored.specs.File.{wordRecordAt, wordAt, proofRecordAt, proofAt, fileEnd, modulusIn, dimIn, basisIn, Opens}
+use Rattle.stored.specs.declared.Reading.{Reading}
+
+-- 3, then the basis present (11)
+abbrev pub lateChecks : List ℕ → Checks
+lateChecks f = (3, (dimIn f < 3) ⊎ (maxDim < dimIn f)) ∷ (11, length f < wordRecordAt (dimIn f)) ∷ []
+
+-- mark, modulus and k present (11), then 1, 2, 3 and the basis
+abbrev pub headChecks : List ℕ → Checks
+headChecks f = (11, (Opens f 0 7 83 69 → ⊥)) ∷ modulusChecks (modulusIn f) ++ lateChecks f
+
+-- then 4 and 5
+abbrev pub basisChecks : List ℕ → Checks
+basisChecks f = (4, (Below (2 ^ degree (modulusIn f)) (basisIn f) → ⊥)) ∷ (5, (Independent (symbols (modulusIn f)) (basisIn f) → ⊥)) ∷ []
+
+abbrev pub settingChecks : List ℕ → Checks
+settingChecks f = headChecks f ++ basisChecks f
+
+-- a record at p of n symbols below 2^l: mark and count present (11), count right (12), symbols present (11), each below 2^l (9)
+abbrev pub recordChecks : List ℕ → ℕ → ℕ → ℕ → ℕ → ℕ → Checks
+recordChecks f p a b n l =
+    (11, (Opens f p 6 a b → ⊥)) ∷ (12, (fourAt f (p + 2) ≡ n → ⊥)) ∷ (11, length f < p + 6 + 2 * n) ∷ (9, (Below (2 ^ l) (numbersAt f (p + 6) n) → ⊥)) ∷ []
+
+-- the word's record and the proof's, at dimension k with symbols below 2^l
+abbrev pub wordChecks : List ℕ → ℕ → ℕ → Checks
+wordChecks f k l = recordChecks f (wordRecordAt k) 87 79 (2 ^ k) l
+
+abbrev pub proofChecks : List ℕ → ℕ → ℕ → Checks
+proofChecks f k l = recordChecks f (proofRecordAt k) 80 70 (S k) l
+
+abbrev pub symbolChecks : List ℕ → ℕ → ℕ → Checks
+symbolChecks f k l = wordChecks f k l ++ proofChecks f k l
+
+-- the three records
+abbrev pub prefixChecks : List ℕ → Checks
+prefixChecks f = settingChecks f ++ symbolChecks f (dimIn f) (degree (modulusIn f))
+
+-- and nothing after them
+abbrev pub fileChecks : List ℕ → Checks
+fileChecks f = prefixChecks f ++ ((12, fileEnd (dimIn f) < length f) ∷ [])
+
+-- ---- what the reader hands back
+
+-- the setting and the places; and where a check refuses, the number alone
+unfoldable pub readOf : List ℕ → Reading
+readOf f =
+    record { refusal = 0; setting = settingOf (modulusIn f) (basisIn f); word = wordAt (dimIn f); proof = proofAt (dimIn f); end = fileEnd (dimIn f) }
+
+unfoldable pub noRead : ℕ → Reading
+noRead n = record { refusal = n; setting = noSetting; word = 0; proof = 0; end = 0 }
+
+abbrev pub Told : Checks → List ℕ → Reading → Type 0
+Told cs f r = (Passes cs × (r ≡ readOf f)) ⊎ (Refuses cs (r .refusal) × (r ≡ noRead (r .refusal)))
+
+-- the n bytes from p on of an accepted file, and nothing of a refused one
+abbrev pub PartOf : List ℕ → ℕ → ℕ → List ℕ → Type 0
+PartOf f p n part = (Passes (fileChecks f) × (part ≡ take n (drop p f))) ⊎ ((Passes (fileChecks f) → ⊥) × (part ≡ []))

@@ -1,0 +1,56 @@
+// Numbers in bytes, lowest byte first.
+ghost use mathlib.Core.Path.{_≡_};
+ghost use Prim.Native.Nat.{_+_, _*_, _≤_, _<_};
+ghost use lib.ListN.{length};
+ghost use Rattle.lists.specs.Decides.{Decides};
+ghost use Rattle.field.specs.Ranges.{Largest};
+ghost use Rattle.stored.specs.Bytes.{twoAt, fourAt, numbersAt};
+ghost use Rattle.stored.specs.File.{Opens};
+
+// The two-byte number at index at.
+pub fn two_at(file: &[u8], at: usize) -> u16
+    requires { ⌜ at + 2 ≤ length (now file) ⌝ }
+    ensures { λ r. ⌜ r ≡ twoAt (now (file .entry)) at ⌝ }
+{
+    file[at] as u16 + 256 * (file[at + 1] as u16)
+}
+
+// The four-byte number at index at.
+pub fn four_at(file: &[u8], at: usize) -> u32
+    requires { ⌜ at + 4 ≤ length (now file) ⌝ }
+    ensures { λ r. ⌜ r ≡ fourAt (now (file .entry)) at ⌝ }
+{
+    two_at(file, at) as u32 + 65536 * (two_at(file, at + 2) as u32)
+}
+
+// Whether size bytes stand at index at, and the first two are the mark.
+pub fn opens(file: &[u8], at: usize, size: usize, first: u8, second: u8) -> bool
+    requires { ⌜ (at ≤ length (now file)) × (2 ≤ size) ⌝ }
+    ensures { λ r. ⌜ Decides r (Opens (now (file .entry)) at size first second) ⌝ }
+{
+    if file.len() - at < size {
+        return false;
+    }
+    if file[at] != first {
+        return false;
+    }
+    if file[at + 1] != second {
+        return false;
+    }
+    true
+}
+
+// The largest of count two-byte numbers from index at on, or 0.
+pub fn largest(file: &[u8], at: usize, count: usize) -> u16
+    requires { ⌜ at + 2 * count ≤ length (now file) ⌝ }
+    ensures { λ r. ⌜ Largest (numbersAt (now (file .entry)) at count) r ⌝ }
+{
+    let mut top: u16 = 0;
+    let mut i = 0;
+    while i < count {
+        let x = two_at(file, at + 2 * i);
+        top = if top < x { x } else { top };
+        i += 1;
+    }
+    top
+}

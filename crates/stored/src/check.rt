@@ -1,0 +1,108 @@
+// The verdict on a word and a proof that stand in bytes. They are not copied: the symbols that the
+// coin reads are gathered.
+use super::bytes;
+use field::Field;
+use proximity::Place;
+use proximity::lines;
+use proximity::places;
+use proximity::spaces;
+use space::Space;
+use transform::blocks;
+use verifier::Verdict;
+ghost use mathlib.Core.Path.{_≡_};
+ghost use mathlib.Core.List.{List};
+ghost use Prim.Native.Nat.{ℕ, _^_, _≤_, _<_};
+ghost use lib.ListN.{length, take};
+ghost use Rattle.lists.specs.All.{Below};
+ghost use Rattle.lists.specs.Decides.{Decides};
+ghost use Rattle.field.specs.Binary.{degree};
+ghost use Rattle.field.specs.Symbols.{symbols};
+ghost use Rattle.poly.specs.Codeword.{Basis, Codeword};
+ghost use Rattle.space.specs.Images.{Images};
+ghost use Rattle.space.specs.Setting.{maxDim};
+ghost use Rattle.transform.specs.Blocks.{InBlocks};
+ghost use Rattle.proximity.specs.ByLine.{placeAt};
+ghost use Rattle.proximity.specs.Dim.{S};
+ghost use Rattle.proximity.specs.Verifier.{readAt};
+ghost use Rattle.verifier.specs.Checker.{symbolsAt, readsOf};
+ghost use Rattle.verifier.specs.Parts.{InSpace};
+ghost use Rattle.stored.specs.Bytes.{numbersAt};
+ghost use Rattle.stored.specs.Check.{Laid, Judged};
+ghost use Rattle.stored.specs.Leaf.{LeafTable};
+
+// The space at which a coin ends.
+fn leaf_space(s: Space, coin: u64) -> Space
+    requires { ⌜ (s .k ≤ maxDim) × (length (s .images) ≡ 192) ⌝ }
+    ensures { λ r. ⌜ LeafTable (s .k) (s .images) coin (r .k) (r .images) ⌝ }
+{
+    let mut k = s.k;
+    let mut images = s.images;
+    let mut rest = coin;
+    while 6 < k {
+        let line = lines::line_of(k, rest);
+        let t = spaces::line_images(&images, k, line);
+        images = t;
+        rest = lines::rest_of(k, rest);
+        k = lines::line_dimension(k, line);
+    }
+    Space { k, images }
+}
+
+fn no_symbols() -> [u16; 64]
+    ensures { λ r. ⌜ length r ≡ 64 ⌝ }
+{
+    [0u16; 64]
+}
+
+// The symbol of number i that a coin reads.
+fn symbol(file: &[u8], word: usize, proof: usize, k: usize, coin: u64, i: usize) -> u16
+    requires { ⌜ Laid (now file) k word proof × (i < readsOf k coin) ⌝ }
+    ensures { λ r. ⌜ r ≡ readAt (numbersAt (now (file .entry)) word (2 ^ k)) (numbersAt (now (file .entry)) proof (S k)) (placeAt k coin i) ⌝ }
+{
+    match places::place(k, coin, i) {
+        Place::InWord(p) => bytes::two_at(file, word + 2 * p),
+        Place::InProof(p) => bytes::two_at(file, proof + 2 * p),
+    }
+}
+
+// The n symbols that a coin reads.
+fn symbols(file: &[u8], word: usize, proof: usize, k: usize, coin: u64, n: usize) -> [u16; 64]
+    requires { ⌜ Laid (now file) k word proof × (n ≡ readsOf k coin) ⌝ }
+    ensures { λ r. ⌜ (length r ≡ 64) × (take n r ≡ symbolsAt k (numbersAt (now (file .entry)) word (2 ^ k)) (numbersAt (now (file .entry)) proof (S k)) coin) ⌝ }
+{
+    let mut out = no_symbols();
+    let mut i = 0;
+    while i < n {
+        out[i] = symbol(file, word, proof, k, coin, i);
+        i += 1;
+    }
+    out
+}
+
+// Whether the first 2^k symbols are a codeword.
+fn accepts(f: Field, k: usize, images: &[u16; 192], read: [u16; 64]) -> bool
+    requires { ⌜ InBlocks f (now images) k (take (2 ^ k) read) × (k ≤ 6) × (length read ≡ 64) ⌝ }
+    ensures { λ r. ⌜ ((b : List ℕ) → Basis (symbols (f .modulus)) k b → Images (symbols (f .modulus)) b (now (images .entry)) → Decides r (Codeword (symbols (f .modulus)) k b (take (2 ^ k) read))) ⌝ }
+{
+    let n = 1usize << k;
+    let mut work = no_symbols();
+    blocks::is_codeword(f, images, k, &read[..n], &mut work[..n])
+}
+
+// The verdict on the word and the proof whose symbols begin at the two indices.
+pub fn verdict(f: Field, s: Space, file: &[u8], word: usize, proof: usize, coin: u64) -> Verdict
+    requires { ⌜ InSpace f (s .k) (s .images) × Laid (now file) (s .k) word proof ⌝ }
+    requires { ⌜ Below (2 ^ degree (f .modulus)) (numbersAt (now file) word (2 ^ s .k)) × Below (2 ^ degree (f .modulus)) (numbersAt (now file) proof (S (s .k))) ⌝ }
+    ensures { λ v. ⌜ ((b : List ℕ) → Basis (symbols (f .modulus)) (s .k) b → Images (symbols (f .modulus)) b (s .images) → Judged (symbols (f .modulus)) (s .k) b (numbersAt (now (file .entry)) word (2 ^ s .k)) (numbersAt (now (file .entry)) proof (S (s .k))) coin v) ⌝ }
+{
+    let k = s.k;
+    let t = leaf_space(s, coin);
+    let m = t.k;
+    let images = t.images;
+    let n = 1usize << m;
+    let read = symbols(file, word, proof, k, coin, n);
+    if accepts(f, m, &images, read) {
+        return Verdict::Accept(n);
+    }
+    Verdict::Reject(n)
+}

@@ -1,0 +1,170 @@
+// The stored file: three records, numbers lowest byte first.
+pub mod bytes;
+mod check;
+mod put;
+pub mod records;
+mod writer;
+
+use proximity::tables;
+use space::Setting;
+use verifier::Verdict;
+ghost use mathlib.Core.Path.{_≡_};
+ghost use Prim.Native.Nat.{_*_, _^_};
+ghost use Rattle.stored.specs.File.{wordAt, proofAt, dimIn};
+ghost use Rattle.stored.specs.Reader.{prefixChecks, fileChecks, noRead, Told, PartOf};
+ghost use Rattle.stored.specs.Writer.{Wrote};
+ghost use Rattle.stored.specs.Check.{AnsweredFile};
+ghost use Rattle.proximity.specs.Dim.{S};
+
+// A refusal's number and no setting, or 0, the setting, and where the symbols of the word and of
+// the proof begin and where the last record ends.
+pub struct Reading {
+    pub refusal: u8,
+    pub setting: Setting,
+    pub word: usize,
+    pub proof: usize,
+    pub end: usize,
+}
+
+// The file is written, or the number of a refusal.
+pub enum Outcome {
+    Written,
+    Refused(u8),
+}
+
+fn refused(number: u8) -> Reading
+    ensures { λ r. ⌜ r ≡ noRead number ⌝ }
+{
+    Reading {
+        refusal: number,
+        setting: space::no_setting(),
+        word: 0,
+        proof: 0,
+        end: 0,
+    }
+}
+
+// Reads three records from the front of the bytes; others may follow.
+//
+// Ruled out: a count that is compared before the mark, since a record with neither gets 11; an end
+// that is the end of the bytes, since it is where the proof's symbols end.
+pub fn read_prefix(file: &[u8]) -> Reading
+    ensures { λ r. ⌜ Told (prefixChecks (now (file .entry))) (now (file .entry)) r ⌝ }
+{
+    let c = records::setting_of(file);
+    let early = c.refusal;
+    let setting = c.setting;
+    if early != 0 {
+        return refused(early);
+    }
+    let k = setting.space.k;
+    let late = records::symbols_refusal(setting.field, file, k);
+    if late != 0 {
+        return refused(late);
+    }
+    let n = 1usize << k;
+    let word = 13 + 2 * k;
+    let proof = word + 2 * n + 6;
+    Reading {
+        refusal: 0,
+        setting,
+        word,
+        proof,
+        end: proof + 2 * tables::proof_length(k),
+    }
+}
+
+// Reads a stored file.
+//
+// Ruled out: 12 for a file that is cut in its last record, since that gets 11 first; 0 for a file
+// with a byte after its last record.
+pub fn read(file: &[u8]) -> Reading
+    ensures { λ r. ⌜ Told (fileChecks (now (file .entry))) (now (file .entry)) r ⌝ }
+{
+    let r = read_prefix(file);
+    let number = r.refusal;
+    let end = r.end;
+    if number != 0 {
+        return r;
+    }
+    if end < file.len() {
+        return refused(12);
+    }
+    r
+}
+
+// The word's bytes in a stored file, and nothing where the file is refused.
+//
+// Ruled out: the word's record with its mark and count, since the part has 2 * 2^k bytes; a part
+// of a file whose proof has a symbol out of range.
+pub fn word_part(file: &[u8]) -> &[u8]
+    ensures { λ r. ⌜ PartOf (now (file .entry)) (wordAt (dimIn (now (file .entry)))) (2 * 2 ^ dimIn (now (file .entry))) (now r) ⌝ }
+{
+    let r = read(file);
+    let number = r.refusal;
+    let start = r.word;
+    let proof = r.proof;
+    if number != 0 {
+        return &file[0..0];
+    }
+    let end = proof - 6;
+    &file[start..end]
+}
+
+// The proof's bytes in a stored file, and nothing where the file is refused.
+//
+// Ruled out: a part that begins at the proof's mark or count; an empty part for an accepted file
+// of dimension 7, whose proof has 896 symbols.
+pub fn proof_part(file: &[u8]) -> &[u8]
+    ensures { λ r. ⌜ PartOf (now (file .entry)) (proofAt (dimIn (now (file .entry)))) (2 * S (dimIn (now (file .entry)))) (now r) ⌝ }
+{
+    let r = read(file);
+    let number = r.refusal;
+    let start = r.proof;
+    let end = r.end;
+    if number != 0 {
+        return &file[0..0];
+    }
+    &file[start..end]
+}
+
+// Writes the stored file of a setting, a word and a proof: checks 1 to 6 and 9, then the bytes.
+//
+// Ruled out: a file whose count is not the one of its symbols, or that another byte string would
+// be; an output that a refused call has changed.
+pub fn write(modulus: u32, basis: &[u16], word: &[u16], proof: &[u16], out: &mut [u8]) -> Outcome
+    ensures { λ r. ⌜ Wrote modulus (now (basis .entry)) (now (word .entry)) (now (proof .entry)) (now (out .entry)) (now (out .exit)) r ⌝ }
+{
+    let number = writer::refusal(modulus, basis, word, proof, out.len());
+    if number != 0 {
+        return Outcome::Refused(number);
+    }
+    let second = 7 + 2 * basis.len();
+    let third = second + 6 + 2 * word.len();
+    put::put_setting(modulus, basis, out);
+    put::put_record(0x57, 0x4F, word, second, out);
+    put::put_record(0x50, 0x46, proof, third, out);
+    Outcome::Written
+}
+
+// The checker for one coin over a stored file: the file's checks, then 8; then the verdict, with
+// the number of symbols read. It writes nothing.
+//
+// Ruled out: 8 for a refused file with a coin out of range, since the file's checks come first; a
+// verdict on a file with a symbol out of range that the coin does not read, since that gets 9.
+pub fn check_file(file: &[u8], coin: u64) -> Verdict
+    ensures { λ v. ⌜ AnsweredFile (now (file .entry)) coin v ⌝ }
+{
+    let r = read(file);
+    let number = r.refusal;
+    let setting = r.setting;
+    let word = r.word;
+    let proof = r.proof;
+    if number != 0 {
+        return Verdict::Refused(number);
+    }
+    if coin >> tables::coin_bits(setting.space.k) != 0 {
+        return Verdict::Refused(8);
+    }
+    check::verdict(setting.field, setting.space, file, word, proof, coin)
+}

@@ -1,0 +1,60 @@
+// The checks of what is to be written.
+use field::Field;
+use field::modulus;
+use proximity::tables;
+ghost use Prim.Native.Nat.{_≤_};
+ghost use lib.ListN.{length};
+ghost use Rattle.lists.specs.Answers.{Answers};
+ghost use Rattle.field.specs.Products.{Sized};
+ghost use Rattle.space.specs.Setting.{maxDim};
+ghost use Rattle.stored.specs.Writer.{lengthChecks, rangeChecks, writerChecks};
+
+// Check 6, of the lengths of word, proof and output.
+fn length_refusal(k: usize, word: usize, proof: usize, out: usize) -> u8
+    requires { ⌜ k ≤ maxDim ⌝ }
+    ensures { λ r. ⌜ Answers (lengthChecks k word proof out) r ⌝ }
+{
+    let n = 1usize << k;
+    if word != n {
+        return 6;
+    }
+    let count = tables::proof_length(k);
+    if proof != count {
+        return 6;
+    }
+    if out != 19 + 2 * k + 2 * n + 2 * count {
+        return 6;
+    }
+    0
+}
+
+// Check 9, of all symbols.
+fn range_refusal(f: Field, word: &[u16], proof: &[u16]) -> u8
+    requires { ⌜ Sized f ⌝ }
+    ensures { λ r. ⌜ Answers (rangeChecks (f .modulus) (now (word .entry)) (now (proof .entry))) r ⌝ }
+{
+    if modulus::all_symbols(f, word) {
+        if modulus::all_symbols(f, proof) {
+            return 0;
+        }
+        return 9;
+    }
+    9
+}
+
+// Checks 1 to 6 and 9 of what is to be written into `out` bytes.
+pub fn refusal(modulus: u32, basis: &[u16], word: &[u16], proof: &[u16], out: usize) -> u8
+    ensures { λ r. ⌜ Answers (writerChecks modulus (now (basis .entry)) (now (word .entry)) (now (proof .entry)) out) r ⌝ }
+{
+    let c = space::check(modulus, basis);
+    let early = c.refusal;
+    let f = c.setting.field;
+    if early != 0 {
+        return early;
+    }
+    let late = length_refusal(basis.len(), word.len(), proof.len(), out);
+    if late != 0 {
+        return late;
+    }
+    range_refusal(f, word, proof)
+}
