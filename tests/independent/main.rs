@@ -7,6 +7,7 @@ extern "C" {
     fn proximity_setting(modulus: u32, basis: *const u16, n: usize) -> u32;
     fn proximity_encode(modulus: u32, basis: *const u16, n: usize, p: *const u16, np: usize, word: *mut u16, w: usize, scratch: *mut u16, s: usize) -> u32;
     fn proximity_decode(modulus: u32, basis: *const u16, n: usize, word: *const u16, w: usize, p: *mut u16, np: usize, scratch: *mut u16, s: usize) -> u32;
+    fn proximity_prove(modulus: u32, basis: *const u16, n: usize, word: *const u16, w: usize, proof: *mut u16, p: usize, scratch: *mut u16, s: usize) -> u32;
     fn proximity_check(modulus: u32, basis: *const u16, n: usize, word: *const u16, w: usize, proof: *const u16, p: usize, coin: u64) -> u64;
 }
 
@@ -20,6 +21,10 @@ fn encode(m: u32, b: &[u16], p: &[u16], w: &mut [u16], s: &mut [u16]) -> u32 {
 
 fn decode(m: u32, b: &[u16], w: &[u16], p: &mut [u16], s: &mut [u16]) -> u32 {
     unsafe { proximity_decode(m, b.as_ptr(), b.len(), w.as_ptr(), w.len(), p.as_mut_ptr(), p.len(), s.as_mut_ptr(), s.len()) }
+}
+
+fn prove(m: u32, b: &[u16], w: &[u16], p: &mut [u16], s: &mut [u16]) -> u32 {
+    unsafe { proximity_prove(m, b.as_ptr(), b.len(), w.as_ptr(), w.len(), p.as_mut_ptr(), p.len(), s.as_mut_ptr(), s.len()) }
 }
 
 /// xorshift, with a fixed seed.
@@ -170,6 +175,50 @@ fn verdicts(t: &mut Tally) {
     }
 }
 
+/// The prover, with right and wrong lengths, symbols and words. Proof and scratch start as noise and are compared whole.
+fn prover(t: &mut Tally) {
+    let mut d = Draw(0x6a09e667f3bcc909);
+    let (mut wrong, mut cases, mut numbers) = (0u64, 0u64, [0u64; 13]);
+    for round in 0..600u64 {
+        let k = 3 + (round % 20).min(d.below(7)) as usize;
+        let l = (k as u64).max(3 + d.below(14)) as u32;
+        let m = if round % 16 == 1 { d.below(140000) as u32 } else { modulus(&mut d, l) };
+        let b = basis(&mut d, l, k);
+        let n = 1usize << k;
+        let off = |d: &mut Draw, right: usize| if d.below(16) == 0 { (right as u64 + d.below(5)).saturating_sub(2) as usize } else { right };
+        let (size, room) = (off(&mut d, model::proof_length(k)), off(&mut d, 4 * n) + d.below(2) as usize * 7);
+        let noise = |d: &mut Draw, n: usize, range: u64| -> Vec<u16> { (0..n).map(|_| d.below(range) as u16).collect() };
+        let p = noise(&mut d, n / 8, 1 << l);
+        let mut w = if model::setting(m, &b) == 0 { model::word_of(m, &b, &p) } else { noise(&mut d, n, 1 << l) };
+        match round % 8 {
+            2 => damage(&mut d, &mut w, 65536),
+            3 => damage(&mut d, &mut w, 1 << l),
+            4 if d.below(3) == 0 => w.truncate(n - 1),
+            _ => {}
+        }
+        let number = match model::setting(m, &b) {
+            0 if w.len() != n || size != model::proof_length(k) => 6,
+            0 if room < 4 * n => 7,
+            0 if w.iter().any(|x| (*x as u32) >> model::degree(m) != 0) => 9,
+            0 if !model::is_codeword(m, &b, &w) => 10,
+            n => n,
+        };
+        let (old, scratch) = (noise(&mut d, size, 65536), noise(&mut d, room, 65536));
+        let right = if number == 0 { model::proof_of(m, &b, &model::through_first(m, &b, &w)) } else { vec![] };
+        let (mut q, mut s) = (old.clone(), scratch.clone());
+        let got = prove(m, &b, &w, &mut q, &mut s);
+        if number == 0 {
+            let coin = d.below(1 << model::coin_bits(k));
+            wrong += u64::from(check(m, &b, &w, &q, coin) >> 16 != 0);
+        }
+        wrong += u64::from(got != number || (q, s) != left(number, right, &old, &scratch));
+        numbers[number as usize] += 1;
+        cases += 1;
+    }
+    println!("done or refused, by number: {numbers:?}");
+    t.group("prover", wrong, cases);
+}
+
 /// Puts a symbol at a place, and gives the one that stood there.
 fn swap(w: &mut [u16], proof: &mut [u16], at: model::Place, x: u16) -> u16 {
     match at {
@@ -269,6 +318,7 @@ fn main() {
     field(&mut t);
     settings(&mut t);
     codec(&mut t);
+    prover(&mut t);
     bench_cases(&mut t);
     verdicts(&mut t);
     println!("{} passed, {} failed", t.passed, t.failed);

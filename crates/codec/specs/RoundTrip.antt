@@ -59,7 +59,7 @@ module _ (m : ℕ) (bs : List ℕ) where
         (λ i h. eval-sym F p (elem (symbols m) bs i) sp (elem-sym F bs i (S .basis .elements)))
 
     -- the word of coefficients passes checks 9 and 10
-    word-passes : (p w : List ℕ) → length p ≡ 2 ^ (length bs - 3) → All (symbols m .Sym) p → w ≡ wordOf (symbols m) (length bs) bs p → Passes (wordChecks m bs w)
+    pub word-passes : (p w : List ℕ) → length p ≡ 2 ^ (length bs - 3) → All (symbols m .Sym) p → w ≡ wordOf (symbols m) (length bs) bs p → Passes (wordChecks m bs w)
     word-passes p w lp sp e = inr ((λ f. f (subst (Below (2 ^ degree m)) (sym e) (word-symbols p sp))), inr ((λ f. f (p, lp, sp, e)), refl))
 
     length-word : (p w : List ℕ) → w ≡ wordOf (symbols m) (length bs) bs p → length w ≡ 2 ^ length bs

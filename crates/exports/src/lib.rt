@@ -11,6 +11,7 @@ ghost use mathlib.Core.Path.{_≡_};
 ghost use Rattle.field.specs.Binary.{_⊕_, product};
 ghost use Rattle.field.specs.Calls.{fieldChecks, Told};
 ghost use Rattle.codec.specs.Calls.{Encoded, Decoded};
+ghost use Rattle.prover.specs.Calls.{Proven};
 ghost use Rattle.field.specs.Products.{Sized};
 ghost use Rattle.lists.specs.Answers.{Answers};
 ghost use Rattle.space.specs.Setting.{settingChecks};
@@ -147,4 +148,17 @@ pub extern "C" fn proximity_decode(
     ensures { λ r. ⌜ ((o : Outcome) × Decoded modulus (now (basis .entry)) (now (word .entry)) (now (coefficients .entry)) (now (coefficients .exit)) (now (scratch .entry)) (now (scratch .exit)) o × (r ≡ outcomeCode o)) ⌝ }
 {
     outcome_code(codec::decode(modulus, basis, word, coefficients, scratch))
+}
+
+#[no_mangle]
+pub extern "C" fn proximity_prove(
+    modulus: u32,
+    basis: &[u16],
+    word: &[u16],
+    proof: &mut [u16],
+    scratch: &mut [u16],
+) -> u32
+    ensures { λ r. ⌜ ((o : Outcome) × Proven modulus (now (basis .entry)) (now (word .entry)) (now (proof .entry)) (now (proof .exit)) (now (scratch .entry)) (now (scratch .exit)) o × (r ≡ outcomeCode o)) ⌝ }
+{
+    outcome_code(prover::prove(modulus, basis, word, proof, scratch))
 }

@@ -1,4 +1,6 @@
 -- The printed sentences, each a theorem about what the calls' contracts say.
 pub mod Answer
+pub mod Outcomes
 pub mod Cases
+pub mod Agreement
 pub mod Terms

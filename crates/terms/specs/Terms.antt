@@ -1,13 +1,17 @@
 -- The printed sentences. Each theorem is about what the calls' contracts say: `Told m bs w π coin v` is the contract of
--- verifier's `check` for its answer v on the modulus m, the basis bs, the word w, the proof π and the coin.
+-- verifier's `check` for its answer v on the modulus m, the basis bs, the word w, the proof π and the coin. Sentence 2 for the other calls: Agreement.antt.
 use mathlib.Core.Path.{_≡_, refl}
 use mathlib.Core.Logic.{_↔_, inr}
-use mathlib.Core.List.{List, map}
-use Prim.Native.Nat.{ℕ, _^_, _≤_, _<_}
+use mathlib.Core.List.{List, _++_, map}
+use Prim.Native.Nat.{ℕ, _*_, _^_, _≤_, _<_}
+use native.Mathlib.Omega.{arith}
 use lib.ListN.{length}
 use Rattle.lists.specs.All.{All}
+use Rattle.lists.specs.Answers.{Passes, answers-after}
+use Rattle.lists.specs.Calls.{zeros}
 use Rattle.field.specs.Symbols.{symbols}
-use Rattle.space.specs.Sound.{Sound, sound-field, sound-passes}
+use Rattle.space.specs.Setting.{settingChecks}
+use Rattle.space.specs.Sound.{Sound, sound-field, sound-passes, setting-numbered}
 use Rattle.proximity.specs.Coverage.{all-coins-read}
 use Rattle.proximity.specs.Dim.{dim, S, R}
 use Rattle.proximity.specs.Proof.{Honest}
@@ -18,6 +22,11 @@ use Rattle.verifier.specs.Checker.{symbolsAt, readsOf, Told}
 use Rattle.verifier.specs.Verdicts.{told-coin, delivery-passes}
 use Rattle.verifier.specs.declared.Verdict.{Verdict}
 use Rattle.verifier.specs.declared.Verdict.the-variants.{Accept}
+use Rattle.codec.specs.Calls.{wordChecks}
+use Rattle.codec.specs.RoundTrip.{word-passes}
+use Rattle.codec.specs.declared.Outcome.the-variants.{Done}
+use Rattle.prover.specs.Calls.{lengthChecks, Proven}
+use Rattle.prover.proofs.CallLaws.{lengths-right}
 use Rattle.terms.specs.Answer.{told-one, same-answer}
 
 -- ---- the checker
@@ -53,6 +62,27 @@ module _ (m : ℕ) (bs : List ℕ) (s : Sound m bs) (w π : List ℕ) (lw : leng
           → Told m bs w π coin (Accept (readsOf (length bs) coin))
       accept-told coin h (r, a) =
           told-coin m bs w π coin (sound-passes m bs s) (delivery-passes (length bs) (length w) (length π) coin lw lπ h) (Accept (readsOf (length bs) coin)) (inr ((λ f. f r), refl), refl, a)
+
+  -- What the prover writes for the word, into any lent proof and scratch of the right lengths: it is done, and leaves π.
+  abbrev pub WrittenByTheProver : List ℕ → List ℕ → Type 0
+  WrittenByTheProver old scratch = Proven m bs w old π scratch (zeros (length scratch)) Done
+
+  -- Sentence 3, first part, of the two calls: the pairs accepted at all coins are those that the prover leaves; it leaves no other (`one-proving`).
+  pub accepted-exactly-written : (old scratch : List ℕ) → length old ≡ S (length bs) → 4 * 2 ^ length bs ≤ length scratch → AcceptedAtAllCoins ↔ WrittenByTheProver old scratch
+  accepted-exactly-written old scratch lo ls = ((λ f. written (accepted-exactly .0 f)), λ p. accepted-exactly .1 (p .right))
+    where
+      lengths : Passes (lengthChecks (length bs) (length w) (length old) (length scratch))
+      lengths = lengths-right (length bs) (length w) (length old) (length scratch) lw lo ls
+
+      written : PairOfAPolynomial → WrittenByTheProver old scratch
+      written (P, H) =
+          record {
+            passes =
+                answers-after (settingChecks m bs) (lengthChecks (length bs) (length w) (length old) (length scratch) ++ wordChecks m bs w) 0 (setting-numbered m bs) (sound-passes m bs s)
+                (answers-after (lengthChecks (length bs) (length w) (length old) (length scratch)) (wordChecks m bs w) 0 (omega arith, (omega arith, tt)) lengths (word-passes m bs s P w (H .count) (H .elements) (H .word)));
+            right = (P, H);
+            cleared = refl;
+          }
 
 -- Sentence 3, second part: a coin's positions follow from k and the coin alone (`positions`), they are at most 64,
 pub at-most-64-reads : (k coin : ℕ) → length (positions (dim k) coin) ≤ 64

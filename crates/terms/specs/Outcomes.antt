@@ -1,0 +1,44 @@
+-- A call with an output and scratch: its contract leaves one outcome, one output and one scratch. Assumes nothing.
+use mathlib.Core.Path.{_≡_, refl, sym, ap, _∙_, subst}
+use mathlib.Core.List.{List}
+use Prim.Native.Nat.{ℕ, _<_}
+use native.Mathlib.Decide.{decLt}
+use native.Mathlib.Omega.{arith}
+use lib.ListN.{length}
+use Rattle.lists.specs.Answers.{Checks, Passes, Refuses, answers-one}
+use Rattle.lists.specs.Calls.{RefusedWith}
+use Rattle.codec.specs.Calls.{Told}
+use Rattle.codec.specs.declared.Outcome.{Outcome}
+use Rattle.codec.specs.declared.Outcome.the-variants.{Done, Refused}
+
+-- the answer, the output and the scratch afterwards
+pub record SameEnd (u v : Outcome) (new new′ left left′ : List ℕ) : Type 0 where
+  pub answer : u ≡ v
+  pub output : new ≡ new′
+  pub scratch : left ≡ left′
+
+module _ (cs : Checks) (Right : List ℕ → Type 0) (one : Passes cs → (a b : List ℕ) → Right a → Right b → a ≡ b) (old scratch : List ℕ) where
+  not-both : (n : ℕ) → Passes cs → Refuses cs n → ⊥
+  not-both n p (l, a) = let e : 0 ≡ n = answers-one cs p a in omega arith
+
+  same-scratch : (n : ℕ) (new new′ left left′ : List ℕ) → RefusedWith cs n old new scratch left → RefusedWith cs n old new′ scratch left′ → left ≡ left′
+  same-scratch n new new′ left left′ r s = by (decLt 7 n)
+    where
+      by : Dec (7 < n) → left ≡ left′
+      by (yes h) = r .late h ∙ sym (s .late h)
+      by (no h) = r .early (omega (arith, h)) ∙ sym (s .early (omega (arith, h)))
+
+  pub told-end : (u v : Outcome) (new new′ left left′ : List ℕ) → Told cs Right old new scratch left u → Told cs Right old new′ scratch left′ v → SameEnd u v new new′ left left′
+  told-end Done Done new new′ left left′ a b =
+      record { answer = refl; output = one (a .passes) new new′ (a .right) (b .right); scratch = a .cleared ∙ sym (b .cleared) }
+  told-end Done (Refused n) new new′ left left′ a r = absurd (not-both n (a .passes) (r .refuses))
+  told-end (Refused n) Done new new′ left left′ r b = absurd (not-both n (b .passes) (r .refuses))
+  told-end (Refused n) (Refused m) new new′ left left′ r s = by (answers-one cs (r .refuses .1) (s .refuses .1))
+    where
+      by : n ≡ m → SameEnd (Refused n) (Refused m) new new′ left left′
+      by e =
+          record {
+            answer = ap Refused e;
+            output = r .untouched ∙ sym (s .untouched);
+            scratch = same-scratch m new new′ left left′ (subst (λ (i : ℕ). RefusedWith cs i old new scratch left) e r) s;
+          }
