@@ -1,0 +1,55 @@
+-- `codec_cases::zeros` meets its contract. Assumes nothing.
+use Prim.Native.Nat.{_-_, _≤_}
+use native.Mathlib.Omega.{arith}
+use lib.ListN.{length}
+use Rattle.codec_cases.proofs.zeros.Statement.{statement}
+use Rattle.codec_cases.proofs.zeros.Tie as tie
+
+abbrev Inv-loop : tie.InvT-loop
+Inv-loop xs n₀ i₀ n i = (i ≤ length xs) × (n ≤ i)
+
+abbrev μ-loop : tie.MeasureT-loop
+μ-loop xs n₀ i₀ n i = length xs - i
+
+loop-holds : tie.Need-loop-holds Inv-loop μ-loop
+loop-holds c = omega arith
+
+mul-one-if-zero : tie.Need-mul-one-if-zero Inv-loop μ-loop
+mul-one-if-zero c = omega arith
+
+shared-slice-read-one-if-zero : tie.Need-shared-slice-read-one-if-zero Inv-loop μ-loop
+shared-slice-read-one-if-zero c = omega arith
+
+one-if-zero-requires : tie.Need-one-if-zero-requires Inv-loop μ-loop
+one-if-zero-requires c κs = omega arith
+
+add-n : tie.Need-add-n Inv-loop μ-loop
+add-n c = omega arith
+
+add-i : tie.Need-add-i Inv-loop μ-loop
+add-i c = omega arith
+
+loop-less : tie.Need-loop-less Inv-loop μ-loop
+loop-less c = omega arith
+
+loop-again : tie.Need-loop-again Inv-loop μ-loop
+loop-again c = omega arith
+
+returns : tie.Need-returns Inv-loop μ-loop
+returns c = omega arith
+
+pub zeros-spec : {M : Type 1} → statement M
+zeros-spec =
+    tie.close
+    (tie.spec
+    Inv-loop
+    μ-loop
+    loop-holds
+    mul-one-if-zero
+    shared-slice-read-one-if-zero
+    one-if-zero-requires
+    add-n
+    add-i
+    loop-less
+    loop-again
+    returns)
