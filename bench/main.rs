@@ -14,20 +14,20 @@ extern "C" {
     fn proximity_prove(modulus: u32, basis: *const u16, n: usize, word: *const u16, w: usize, proof: *mut u16, p: usize, scratch: *mut u16, s: usize) -> u32;
 }
 
-/// Nanoseconds of processor time for one turn, over enough turns for a tenth of a second.
+/// Nanoseconds of processor time for one turn: the least of five runs, each of a twentieth of a second or one turn.
 fn time(mut f: impl FnMut(u64)) -> f64 {
-    let mut n = 1u64;
-    loop {
+    let mut run = |n: u64| {
         let start = unsafe { clock() };
         for i in 0..n {
             f(i);
         }
-        let spent = unsafe { clock() } - start;
-        if spent > 100_000 {
-            return spent as f64 * 1000.0 / n as f64;
-        }
-        n *= 4;
+        unsafe { clock() - start }
+    };
+    let mut n = 1;
+    while run(n) < 50_000 {
+        n *= 2;
     }
+    (0..5).map(|_| run(n)).min().unwrap_or(0) as f64 * 1000.0 / n as f64
 }
 
 const MODULUS: u32 = 65581;
