@@ -81,7 +81,7 @@ fn all_fit(f: Field, file: &[u8], at: usize, count: usize) -> bool
 }
 
 // The checks of a record of count symbols at index at.
-fn record_refusal(f: Field, file: &[u8], at: usize, first: u8, second: u8, count: usize) -> u8
+pub fn record_refusal(f: Field, file: &[u8], at: usize, first: u8, second: u8, count: usize) -> u8
     requires { ⌜ Sized f × (at ≤ length (now file)) × (count < 4294967296) ⌝ }
     ensures { λ r. ⌜ Answers (recordChecks (now (file .entry)) at first second count (degree (f .modulus))) r ⌝ }
 {
