@@ -44,7 +44,7 @@ fn pair_refusal(modulus: u32, a: u16, b: u16) -> u8
     9
 }
 
-// The sum of two symbols. The contract rules out 6 for 3 + 3, and refusal 9 for the modulus 15.
+// The sum of two symbols. The contract rules out 3 for 3 + 3, and refusal 9 for the modulus 15.
 pub fn sum(modulus: u32, a: u16, b: u16) -> Value
     ensures { λ r. ⌜ Told (fieldChecks modulus a b) (a ⊕ b) r ⌝ }
 {

@@ -76,7 +76,7 @@ pub fn read_prefix(file: &[u8]) -> Reading
 
 // Reads a stored file.
 //
-// Ruled out: 12 for a file that is cut in its last record, since that gets 11 first; 0 for a file
+// Ruled out: 11 for a count that is not the one of the setting, since that gets 12; 0 for a file
 // with a byte after its last record.
 pub fn read(file: &[u8]) -> Reading
     ensures { λ r. ⌜ Told (fileChecks (now (file .entry))) (now (file .entry)) r ⌝ }
@@ -113,8 +113,8 @@ pub fn word_part(file: &[u8]) -> &[u8]
 
 // The proof's bytes in a stored file, and nothing where the file is refused.
 //
-// Ruled out: a part that begins at the proof's mark or count; an empty part for an accepted file
-// of dimension 7, whose proof has 896 symbols.
+// Ruled out: a part that begins with the word; an empty part for an accepted file of dimension 7,
+// whose proof has 896 symbols.
 pub fn proof_part(file: &[u8]) -> &[u8]
     ensures { λ r. ⌜ PartOf (now (file .entry)) (proofAt (dimIn (now (file .entry)))) (2 * S (dimIn (now (file .entry)))) (now r) ⌝ }
 {
@@ -130,8 +130,7 @@ pub fn proof_part(file: &[u8]) -> &[u8]
 
 // Writes the stored file of a setting, a word and a proof: checks 1 to 6 and 9, then the bytes.
 //
-// Ruled out: a file whose count is not the one of its symbols, or that another byte string would
-// be; an output that a refused call has changed.
+// Ruled out: a file of another modulus; a file with another mark, which no reader takes.
 pub fn write(modulus: u32, basis: &[u16], word: &[u16], proof: &[u16], out: &mut [u8]) -> Outcome
     ensures { λ r. ⌜ Wrote modulus (now (basis .entry)) (now (word .entry)) (now (proof .entry)) (now (out .entry)) (now (out .exit)) r ⌝ }
 {
