@@ -1,87 +1,142 @@
-//! Processor time of the proved calls, beside the independent model, in one run.
+//! Processor time of the proved calls beside the independent model and beside a plain implementation with tables of logarithms, in one
+//! run. The plain one checks no input; the proved calls make all their checks. With a file name, a plot is written there.
 #[path = "../tests/independent/model.rs"]
 #[allow(dead_code)]
 mod model;
+#[path = "../tests/independent/file.rs"]
+#[allow(dead_code)]
+mod file;
+mod calls;
+mod plain;
+mod plot;
 
-extern "C" {
-    fn clock() -> i64;
-    fn proximity_product(modulus: u32, a: u16, b: u16) -> u32;
-    fn proximity_products(modulus: u32, factors: *const u16, n: usize, values: *mut u16, v: usize) -> u32;
-    fn proximity_setting(modulus: u32, basis: *const u16, n: usize) -> u32;
-    fn proximity_check(modulus: u32, basis: *const u16, n: usize, word: *const u16, w: usize, proof: *const u16, p: usize, coin: u64) -> u64;
-    fn proximity_encode(modulus: u32, basis: *const u16, n: usize, p: *const u16, np: usize, word: *mut u16, w: usize, scratch: *mut u16, s: usize) -> u32;
-    fn proximity_decode(modulus: u32, basis: *const u16, n: usize, word: *const u16, w: usize, p: *mut u16, np: usize, scratch: *mut u16, s: usize) -> u32;
-    fn proximity_prove(modulus: u32, basis: *const u16, n: usize, word: *const u16, w: usize, proof: *mut u16, p: usize, scratch: *mut u16, s: usize) -> u32;
-}
-
-/// Nanoseconds of processor time for one turn: the least of five runs, each of a twentieth of a second or one turn.
-fn time(mut f: impl FnMut(u64)) -> f64 {
-    let mut run = |n: u64| {
-        let start = unsafe { clock() };
-        for i in 0..n {
-            f(i);
-        }
-        unsafe { clock() - start }
-    };
-    let mut n = 1;
-    while run(n) < 50_000 {
-        n *= 2;
-    }
-    (0..5).map(|_| run(n)).min().unwrap_or(0) as f64 * 1000.0 / n as f64
-}
+use std::hint::black_box;
 
 const MODULUS: u32 = 65581;
 
-fn field(basis: &[u16]) {
-    let mut x = 3u32;
-    println!("product with its checks, chained  {:10.1} ns", time(|_| x = unsafe { proximity_product(MODULUS, x as u16 | 1, 40503) } & 65535));
-    let mut y = 3u16;
-    println!("the model's product, chained      {:10.1} ns", time(|_| y = model::mul(MODULUS, y | 1, 40503)));
-    let factors: Vec<u16> = (0..4096u32).map(|i| (i * 40503) as u16).collect();
-    let mut values: Vec<u16> = (0..8192u32).map(|i| (i * 25717) as u16).collect();
-    let one = time(|_| assert_eq!(unsafe { proximity_products(MODULUS, factors.as_ptr(), 4096, values.as_mut_ptr(), 8192) }, 0));
-    println!("a product in a list of 4096       {:10.2} ns", one / 4096.0);
-    println!("checks 1 to 5 at l = 16, k = 12   {:10.1} ns", time(|_| assert_eq!(unsafe { proximity_setting(MODULUS, basis.as_ptr(), 12) }, 0)));
-    println!("the model's checks 1 to 5         {:10.1} ns", time(|_| assert_eq!(model::setting(MODULUS, basis), 0)));
+/// Nanoseconds of processor time for one turn: the least of many runs of a millisecond or one turn.
+fn time(mut f: impl FnMut(u64)) -> f64 {
+    let mut run = |n: u64| {
+        let start = calls::clock();
+        (0..n).for_each(&mut f);
+        calls::clock() - start
+    };
+    let mut n = 1;
+    while run(n) < 1_000 {
+        n *= 2;
+    }
+    let (mut least, mut spent, mut turns) = (i64::MAX, 0, 0);
+    while turns < 5 || (spent < 300_000 && turns < 200) {
+        let t = run(n);
+        least = least.min(t);
+        spent += t;
+        turns += 1;
+    }
+    least as f64 * 1000.0 / n as f64
 }
 
-/// Words and coefficients: the proved calls beside plain evaluation, which is quadratic.
-fn codec(basis: &[u16]) {
-    println!("  k     encode     decode  plain evaluation   (microseconds)");
-    for k in 3..=12usize {
-        let b = &basis[..k];
-        let p: Vec<u16> = (0..1u32 << (k - 3)).map(|i| (i * 25717 + 11) as u16).collect();
-        let (mut w, mut q, mut s) = (vec![0u16; 1 << k], vec![0u16; 1 << (k - 3)], vec![0u16; 4 << k]);
-        let encode = time(|_| assert_eq!(unsafe { proximity_encode(MODULUS, b.as_ptr(), k, p.as_ptr(), p.len(), w.as_mut_ptr(), w.len(), s.as_mut_ptr(), s.len()) }, 0));
-        let decode = time(|_| assert_eq!(unsafe { proximity_decode(MODULUS, b.as_ptr(), k, w.as_ptr(), w.len(), q.as_mut_ptr(), q.len(), s.as_mut_ptr(), s.len()) }, 0));
-        assert_eq!(p, q);
-        let plain = time(|_| assert_eq!(model::word_of(MODULUS, b, &p), w));
-        println!("{k:3} {:10.2} {:10.2} {:17.2}", encode / 1000.0, decode / 1000.0, plain / 1000.0);
+fn coin_at(k: usize, i: u64) -> u64 {
+    i.wrapping_mul(0x9e3779b97f4a7c15) >> (64 - model::coin_bits(k))
+}
+
+fn field(basis: &[u16]) {
+    let mut x = 3u32;
+    println!("product with its checks, chained  {:10.1} ns", time(|_| x = calls::product(MODULUS, x as u16 | 1, 40503) & 65535));
+    let (f, mut y, mut z) = (plain::Field::new(MODULUS), 3u16, 3u16);
+    println!("  model                           {:10.1} ns", time(|_| y = model::mul(MODULUS, y | 1, 40503)));
+    println!("  log tables                      {:10.1} ns", time(|_| z = f.mul(z | 1, 40503)));
+    let factors: Vec<u16> = (0..4096u32).map(|i| (i * 40503) as u16).collect();
+    let mut values: Vec<u16> = (0..8192u32).map(|i| (i * 25717) as u16).collect();
+    let one = time(|_| assert_eq!(calls::products(MODULUS, &factors, &mut values), 0));
+    println!("a product in a list of 4096       {:10.2} ns", one / 4096.0);
+    println!("checks 1 to 5 at l = 16, k = 12   {:10.1} ns", time(|_| assert_eq!(calls::setting(MODULUS, basis), 0)));
+    println!("  model                           {:10.1} ns", time(|_| assert_eq!(model::setting(MODULUS, basis), 0)));
+}
+
+/// Microseconds of one operation: proved, with log tables, by the model.
+#[derive(Clone, Copy)]
+pub struct Row {
+    pub k: usize,
+    pub proved: f64,
+    pub plain: f64,
+    pub model: Option<f64>,
+}
+
+fn table(name: &str, rows: &[Row]) {
+    println!("\n{name} (microseconds)\n  k      proved  log tables       ratio       model");
+    for r in rows {
+        let model = r.model.map_or("-".to_string(), |x| format!("{x:.1}"));
+        println!("{:3} {:11.2} {:11.2} {:11.2} {model:>11}", r.k, r.proved, r.plain, r.proved / r.plain);
     }
 }
 
-/// The prover and one coin of the checker. The model's prover is shown up to k = 9.
-fn proofs(basis: &[u16]) {
-    println!("  k  prove (us)  model's (us)  a coin with checks 1 to 5 (ns)  of it the coin (ns)");
-    for k in 7..=12usize {
+/// The rows of encode, decode, prove and one coin at one dimension. The model's prover and checker are shown where they are quick enough.
+fn dimension(f: &plain::Field, basis: &[u16]) -> [Row; 4] {
+    let k = basis.len();
+    let space = plain::Space::new(f, basis);
+    let p: Vec<u16> = (0..1u32 << (k - 3)).map(|i| (i * 25717 + 11) as u16).collect();
+    let (mut w, mut q, mut s) = (vec![0u16; 1 << k], vec![0u16; 1 << (k - 3)], vec![0u16; 4 << k]);
+    let (mut pi, mut plain_pi) = (vec![0u16; model::proof_length(k)], vec![0u16; model::proof_length(k)]);
+    let us = |ns: f64| ns / 1000.0;
+    let row = |proved, plain, model: Option<f64>| Row { k, proved: us(proved), plain: us(plain), model: model.map(us) };
+
+    let proved = time(|_| assert_eq!(calls::encode(MODULUS, basis, &p, &mut w, &mut s), 0));
+    let fast = time(|_| assert_eq!(black_box(plain::encode(f, &space, &p)), w));
+    let encode = row(proved, fast, (k <= 10).then(|| time(|_| assert_eq!(model::word_of(MODULUS, basis, &p), w))));
+
+    let proved = time(|_| assert_eq!(calls::decode(MODULUS, basis, &w, &mut q, &mut s), 0));
+    let fast = time(|_| assert_eq!(black_box(plain::decode(f, &space, &w)).as_ref(), Some(&p)));
+    let decode = row(proved, fast, (k <= 8).then(|| time(|_| assert_eq!(model::through_first(MODULUS, basis, &w), p))));
+
+    let proved = time(|_| assert_eq!(calls::prove(MODULUS, basis, &w, &mut pi, &mut s), 0));
+    let fast = time(|_| plain::prove(f, &space, &w, &mut plain_pi));
+    assert_eq!(pi, plain_pi);
+    let prove = row(proved, fast, (k <= 9).then(|| time(|_| assert_eq!(model::proof_of(MODULUS, basis, &p), pi))));
+
+    let with_checks = time(|i| assert!(calls::check(MODULUS, basis, &w, &pi, coin_at(k, i)) <= 64));
+    let checks = time(|_| assert_eq!(calls::setting(MODULUS, basis), 0));
+    let fast = time(|i| assert!(plain::check(f, &space, &w, &pi, coin_at(k, i))));
+    let slow = time(|i| assert!(model::check(MODULUS, basis, &w, &pi, coin_at(k, i)) <= 64));
+    println!("k {k:2}: a coin with checks 1 to 5 {with_checks:8.1} ns, checks 1 to 5 {checks:8.1} ns");
+    [encode, decode, prove, row(with_checks - checks, fast, Some(slow))]
+}
+
+/// A stored file: all coins at k = 8, and the host kit's call at k = 12.
+fn stored(f: &plain::Field, basis: &[u16]) {
+    for k in [8, 12] {
         let b = &basis[..k];
+        let space = plain::Space::new(f, b);
         let p: Vec<u16> = (0..1u32 << (k - 3)).map(|i| (i * 25717 + 11) as u16).collect();
-        let (mut w, mut pi, mut s) = (vec![0u16; 1 << k], vec![0u16; model::proof_length(k)], vec![0u16; 4 << k]);
-        assert_eq!(unsafe { proximity_encode(MODULUS, b.as_ptr(), k, p.as_ptr(), p.len(), w.as_mut_ptr(), w.len(), s.as_mut_ptr(), s.len()) }, 0);
-        let prove = time(|_| assert_eq!(unsafe { proximity_prove(MODULUS, b.as_ptr(), k, w.as_ptr(), w.len(), pi.as_mut_ptr(), pi.len(), s.as_mut_ptr(), s.len()) }, 0));
-        let plain = if k <= 9 { format!("{:.0}", time(|_| assert_eq!(model::proof_of(MODULUS, b, &p), pi)) / 1000.0) } else { "-".to_string() };
-        let check = time(|i| {
-            let coin = i.wrapping_mul(0x9e3779b97f4a7c15) >> (64 - model::coin_bits(k));
-            assert!(unsafe { proximity_check(MODULUS, b.as_ptr(), k, w.as_ptr(), w.len(), pi.as_ptr(), pi.len(), coin) } <= 64);
-        });
-        let setting = time(|_| assert_eq!(unsafe { proximity_setting(MODULUS, b.as_ptr(), k) }, 0));
-        println!("{k:3} {:11.1} {plain:>13} {check:31.1} {:20.1}", prove / 1000.0, check - setting);
+        let w = plain::encode(f, &space, &p);
+        let mut pi = vec![0u16; model::proof_length(k)];
+        plain::prove(f, &space, &w, &mut pi);
+        let bytes = file::bytes_of(MODULUS, b, &w, &pi);
+        if k == 8 {
+            let mut counts = [0; 5];
+            let proved = time(|_| assert_eq!(calls::count(&bytes, &mut counts), 0));
+            assert_eq!(counts, [8, 2048, 0, 64, 0]);
+            let fast = time(|_| assert!((0..2048).all(|c| plain::check(f, &space, &w, &pi, c))));
+            println!("\nall 2048 coins of a stored file at k = 8: proved {:.3} ms, log tables {:.3} ms", proved / 1e6, fast / 1e6);
+        } else {
+            let mut reads = 0;
+            let call = time(|i| assert_eq!(calls::check_file(&bytes, coin_at(k, i), &mut reads), 0));
+            println!("host kit's call on a stored file at k = 12, {} bytes: {:.3} ms", bytes.len(), call / 1e6);
+        }
     }
 }
 
 fn main() {
     let basis: Vec<u16> = (0..12).map(|i| 1 << i).collect();
     field(&basis);
-    codec(&basis);
-    proofs(&basis);
+    let f = plain::Field::new(MODULUS);
+    let rows: Vec<[Row; 4]> = (7..=12).map(|k| dimension(&f, &basis[..k])).collect();
+    let names = ["encode", "decode", "prove", "one coin on a checked setting: the difference of the two times above"];
+    for (i, name) in names.iter().enumerate() {
+        table(name, &rows.iter().map(|r| r[i]).collect::<Vec<_>>());
+    }
+    stored(&f, &basis);
+    if let Some(path) = std::env::args().nth(1) {
+        std::fs::write(&path, plot::draw(&rows)).expect("the plot can be written");
+        println!("plot: {path}");
+    }
 }

@@ -1,0 +1,58 @@
+//! The proved calls, as safe functions.
+mod raw {
+    extern "C" {
+        pub fn clock() -> i64;
+        pub fn proximity_product(modulus: u32, a: u16, b: u16) -> u32;
+        pub fn proximity_products(modulus: u32, factors: *const u16, n: usize, values: *mut u16, v: usize) -> u32;
+        pub fn proximity_setting(modulus: u32, basis: *const u16, n: usize) -> u32;
+        pub fn proximity_check(modulus: u32, basis: *const u16, n: usize, word: *const u16, w: usize, proof: *const u16, p: usize, coin: u64) -> u64;
+        pub fn proximity_encode(modulus: u32, basis: *const u16, n: usize, p: *const u16, np: usize, word: *mut u16, w: usize, scratch: *mut u16, s: usize) -> u32;
+        pub fn proximity_decode(modulus: u32, basis: *const u16, n: usize, word: *const u16, w: usize, p: *mut u16, np: usize, scratch: *mut u16, s: usize) -> u32;
+        pub fn proximity_prove(modulus: u32, basis: *const u16, n: usize, word: *const u16, w: usize, proof: *mut u16, p: usize, scratch: *mut u16, s: usize) -> u32;
+        pub fn proximity_count(file: *const u8, n: usize, counts: *mut u64, c: usize) -> u32;
+        pub fn proximity_check_file(file: *const u8, n: usize, coin: u64, reads: *mut u32) -> u32;
+    }
+}
+
+/// Processor time in microseconds.
+pub fn clock() -> i64 {
+    unsafe { raw::clock() }
+}
+
+pub fn product(m: u32, a: u16, b: u16) -> u32 {
+    unsafe { raw::proximity_product(m, a, b) }
+}
+
+pub fn products(m: u32, factors: &[u16], values: &mut [u16]) -> u32 {
+    unsafe { raw::proximity_products(m, factors.as_ptr(), factors.len(), values.as_mut_ptr(), values.len()) }
+}
+
+pub fn setting(m: u32, b: &[u16]) -> u32 {
+    unsafe { raw::proximity_setting(m, b.as_ptr(), b.len()) }
+}
+
+pub fn check(m: u32, b: &[u16], w: &[u16], p: &[u16], coin: u64) -> u64 {
+    unsafe { raw::proximity_check(m, b.as_ptr(), b.len(), w.as_ptr(), w.len(), p.as_ptr(), p.len(), coin) }
+}
+
+pub fn encode(m: u32, b: &[u16], p: &[u16], w: &mut [u16], s: &mut [u16]) -> u32 {
+    unsafe { raw::proximity_encode(m, b.as_ptr(), b.len(), p.as_ptr(), p.len(), w.as_mut_ptr(), w.len(), s.as_mut_ptr(), s.len()) }
+}
+
+pub fn decode(m: u32, b: &[u16], w: &[u16], p: &mut [u16], s: &mut [u16]) -> u32 {
+    unsafe { raw::proximity_decode(m, b.as_ptr(), b.len(), w.as_ptr(), w.len(), p.as_mut_ptr(), p.len(), s.as_mut_ptr(), s.len()) }
+}
+
+pub fn prove(m: u32, b: &[u16], w: &[u16], p: &mut [u16], s: &mut [u16]) -> u32 {
+    unsafe { raw::proximity_prove(m, b.as_ptr(), b.len(), w.as_ptr(), w.len(), p.as_mut_ptr(), p.len(), s.as_mut_ptr(), s.len()) }
+}
+
+/// The five numbers of the coin counter.
+pub fn count(file: &[u8], counts: &mut [u64]) -> u32 {
+    unsafe { raw::proximity_count(file.as_ptr(), file.len(), counts.as_mut_ptr(), counts.len()) }
+}
+
+/// The host kit's call.
+pub fn check_file(file: &[u8], coin: u64, reads: &mut u32) -> u32 {
+    unsafe { raw::proximity_check_file(file.as_ptr(), file.len(), coin, reads) }
+}

@@ -1,0 +1,290 @@
+//! A plain fast implementation with tables of logarithms, to compare speed with. It checks no input.
+
+/// GF(2^16) by its logarithms.
+pub struct Field {
+    log: Vec<u32>,
+    exp: Vec<u16>,
+}
+
+fn times_x(modulus: u32, x: u32) -> u32 {
+    if x & 0x8000 != 0 { (x << 1) ^ modulus } else { x << 1 }
+}
+
+fn slow_product(modulus: u32, a: u32, b: u32) -> u32 {
+    (0..16).rev().fold(0, |s, i| times_x(modulus, s) ^ if b >> i & 1 == 1 { a } else { 0 })
+}
+
+impl Field {
+    /// A modulus of degree 16.
+    pub fn new(modulus: u32) -> Field {
+        for g in 2..65536u32 {
+            let (mut log, mut exp, mut x) = (vec![0; 65536], vec![0; 131072], 1u32);
+            for i in 0..65535usize {
+                log[x as usize] = i as u32;
+                exp[i] = x as u16;
+                exp[i + 65535] = x as u16;
+                x = slow_product(modulus, x, g);
+                if x == 1 && i < 65534 {
+                    break;
+                }
+            }
+            if exp[65534] != 0 {
+                return Field { log, exp };
+            }
+        }
+        unreachable!("a field has a generator")
+    }
+
+    pub fn mul(&self, a: u16, b: u16) -> u16 {
+        if a == 0 || b == 0 {
+            return 0;
+        }
+        self.exp[(self.log[a as usize] + self.log[b as usize]) as usize]
+    }
+
+    fn div(&self, a: u16, b: u16) -> u16 {
+        if a == 0 {
+            return 0;
+        }
+        self.exp[(self.log[a as usize] + 65535 - self.log[b as usize]) as usize]
+    }
+
+    /// Adds c times each symbol of `from` to `to`.
+    fn add_scaled(&self, c: u16, from: &[u16], to: &mut [u16]) {
+        if c == 0 {
+            return;
+        }
+        let l = self.log[c as usize];
+        for (t, &x) in to.iter_mut().zip(from) {
+            if x != 0 {
+                *t ^= self.exp[(l + self.log[x as usize]) as usize];
+            }
+        }
+    }
+}
+
+/// images[i][j] is W_j(b_(i+1)) / W_j(b_(j+1)), and steps[j] is W_j(b_(j+1)).
+#[derive(Clone)]
+pub struct Space {
+    pub k: usize,
+    images: [[u16; 16]; 12],
+    steps: [u16; 12],
+}
+
+fn xor(a: [u16; 16], b: [u16; 16]) -> [u16; 16] {
+    std::array::from_fn(|j| a[j] ^ b[j])
+}
+
+impl Space {
+    pub fn new(f: &Field, basis: &[u16]) -> Space {
+        let mut s = Space { k: basis.len(), images: [[0; 16]; 12], steps: [0; 12] };
+        let mut w = basis.to_vec();
+        for j in 0..s.k {
+            let step = w[j];
+            s.steps[j] = step;
+            for i in 0..s.k {
+                s.images[i][j] = f.div(w[i], step);
+                w[i] = f.mul(w[i], w[i] ^ step);
+            }
+        }
+        s
+    }
+
+    /// The images of the element with the bits of i over the basis from number `from` on.
+    fn element(&self, from: usize, i: usize) -> [u16; 16] {
+        (0..self.k - from).filter(|j| i >> j & 1 == 1).fold([0; 16], |s, j| xor(s, self.images[from + j]))
+    }
+
+    fn row(&self, r: usize) -> Space {
+        let h = self.k / 2;
+        let mut s = self.clone();
+        s.k = h + 3;
+        if r >= 4 {
+            s.images[h + 2] = self.element(h, r);
+        }
+        s
+    }
+
+    fn column(&self) -> Space {
+        let h = self.k / 2;
+        let mut s = Space { k: self.k - h, images: [[0; 16]; 12], steps: [0; 12] };
+        for i in 0..s.k {
+            for j in 0..s.k {
+                s.images[i][j] = self.images[i + h][j + h];
+            }
+        }
+        s
+    }
+}
+
+fn transform(f: &Field, s: &Space, shift: [u16; 16], values: &mut [u16]) {
+    if values.len() == 1 {
+        return;
+    }
+    let (low, high) = values.split_at_mut(values.len() / 2);
+    let j = low.len().trailing_zeros() as usize;
+    f.add_scaled(shift[j], high, low);
+    high.iter_mut().zip(low.iter()).for_each(|(y, x)| *y ^= x);
+    transform(f, s, shift, low);
+    transform(f, s, xor(shift, s.images[j]), high);
+}
+
+fn inverse(f: &Field, s: &Space, shift: [u16; 16], values: &mut [u16]) {
+    if values.len() == 1 {
+        return;
+    }
+    let (low, high) = values.split_at_mut(values.len() / 2);
+    let j = low.len().trailing_zeros() as usize;
+    inverse(f, s, shift, low);
+    inverse(f, s, xor(shift, s.images[j]), high);
+    high.iter_mut().zip(low.iter()).for_each(|(y, x)| *y ^= x);
+    f.add_scaled(shift[j], high, low);
+}
+
+/// The coefficients of W_j at x^(2^i), for each j below the given number.
+fn vanishing(f: &Field, s: &Space, count: usize) -> Vec<Vec<u16>> {
+    let mut all = vec![vec![1u16]];
+    for j in 0..count {
+        let w = &all[j];
+        let next = (0..=j + 1).map(|i| {
+            let square = if i > 0 { f.mul(w[i - 1], w[i - 1]) } else { 0 };
+            square ^ if i <= j { f.mul(s.steps[j], w[i]) } else { 0 }
+        });
+        let next: Vec<u16> = next.collect();
+        all.push(next);
+    }
+    all
+}
+
+/// Adds c W_j without its highest term, from index i - 2^j on.
+fn add_low_terms(f: &Field, w: &[u16], j: usize, i: usize, p: &mut [u16]) {
+    let c = p[i];
+    for t in 0..j {
+        p[i - (1 << j) + (1 << t)] ^= f.mul(c, w[t]);
+    }
+}
+
+pub fn encode(f: &Field, s: &Space, p: &[u16]) -> Vec<u16> {
+    let m = s.k - 3;
+    let w = vanishing(f, s, m);
+    let mut d = p.to_vec();
+    for j in (0..m).rev() {
+        for chunk in d.chunks_mut(2 << j) {
+            (1 << j..2 << j).rev().for_each(|i| add_low_terms(f, &w[j], j, i, chunk));
+            chunk[1 << j..].iter_mut().for_each(|x| *x = f.mul(*x, s.steps[j]));
+        }
+    }
+    (0..8).flat_map(|r| {
+        let mut block = d.clone();
+        transform(f, s, s.element(m, r), &mut block);
+        block
+    }).collect()
+}
+
+/// The coefficients over the novel basis of a codeword.
+fn block_coefficients(f: &Field, s: &Space, word: &[u16]) -> Option<Vec<u16>> {
+    let size = word.len() / 8;
+    let mut first: Vec<u16> = Vec::new();
+    for r in 0..8 {
+        let mut block = word[r * size..(r + 1) * size].to_vec();
+        inverse(f, s, s.element(s.k - 3, r), &mut block);
+        if r == 0 {
+            first = block;
+        } else if block != first {
+            return None;
+        }
+    }
+    Some(first)
+}
+
+pub fn decode(f: &Field, s: &Space, word: &[u16]) -> Option<Vec<u16>> {
+    let m = s.k - 3;
+    let w = vanishing(f, s, m);
+    let mut d = block_coefficients(f, s, word)?;
+    for j in 0..m {
+        for chunk in d.chunks_mut(2 << j) {
+            chunk[1 << j..].iter_mut().for_each(|x| *x = f.div(*x, s.steps[j]));
+            (1 << j..2 << j).for_each(|i| add_low_terms(f, &w[j], j, i, chunk));
+        }
+    }
+    Some(d)
+}
+
+fn slot(r: usize) -> usize {
+    r.min(4)
+}
+
+/// The proof of a codeword, at dimensions whose columns are short.
+pub fn prove(f: &Field, s: &Space, word: &[u16], proof: &mut [u16]) {
+    let (k, h) = (s.k, s.k / 2);
+    if k <= 6 {
+        return;
+    }
+    let (rows, size) = (1usize << (k - h), 1usize << h);
+    let (stored, inner) = proof.split_at_mut(7 << k);
+    let deep = if h + 3 > 6 { inner.len() / rows } else { 0 };
+    let (mut block, mut whole) = (vec![0; size], vec![0; 8 * size]);
+    for r in 0..rows {
+        let own = s.element(h, r);
+        let space = s.row(r);
+        let mut d = word[r * size..(r + 1) * size].to_vec();
+        inverse(f, s, own, &mut d);
+        for j in 0..8 {
+            if j == slot(r) {
+                whole[j * size..(j + 1) * size].copy_from_slice(&word[r * size..(r + 1) * size]);
+                continue;
+            }
+            block.copy_from_slice(&d);
+            transform(f, s, space.element(h, j), &mut block);
+            let at = (7 * r + j - (j > slot(r)) as usize) * size;
+            stored[at..at + size].copy_from_slice(&block);
+            whole[j * size..(j + 1) * size].copy_from_slice(&block);
+        }
+        prove(f, &space, &whole, &mut inner[r * deep..(r + 1) * deep]);
+    }
+}
+
+/// A word in eight blocks, of which `near` is number `slot`.
+struct Word<'a> {
+    near: &'a [u16],
+    far: &'a [u16],
+    slot: usize,
+}
+
+impl Word<'_> {
+    fn at(&self, i: usize) -> u16 {
+        let (j, o) = (i / self.near.len(), i % self.near.len());
+        if j == self.slot { self.near[o] } else { self.far[(j - (j > self.slot) as usize) * self.near.len() + o] }
+    }
+}
+
+fn check_word(f: &Field, s: &Space, w: Word, proof: &[u16], coin: u64) -> bool {
+    let (k, h) = (s.k, s.k / 2);
+    if k <= 6 {
+        let all: Vec<u16> = (0..1 << k).map(|i| w.at(i)).collect();
+        return block_coefficients(f, s, &all).is_some();
+    }
+    let (rows, size) = (1usize << (k - h), 1usize << h);
+    let taken = (coin >> 1) as usize;
+    if coin & 1 == 0 {
+        let r = taken % rows;
+        let deep = if h + 3 > 6 { (proof.len() - (7 << k)) / rows } else { 0 };
+        let at = (7 << k) + r * deep;
+        let near: Vec<u16> = (r * size..(r + 1) * size).map(|i| w.at(i)).collect();
+        let row = Word { near: &near, far: &proof[7 * r * size..7 * (r + 1) * size], slot: slot(r) };
+        return check_word(f, &s.row(r), row, &proof[at..at + deep], coin >> (1 + k - h));
+    }
+    let a = taken % (4 * size);
+    let (j, o) = (a / size, a % size);
+    let all: Vec<u16> = (0..rows)
+        .map(|r| if j == slot(r) { w.at(r * size + o) } else { proof[(7 * r + j - (j > slot(r)) as usize) * size + o] })
+        .collect();
+    let (near, far) = all.split_at(rows / 8);
+    check_word(f, &s.column(), Word { near, far, slot: 0 }, &[], coin >> (h + 3))
+}
+
+/// The verdict for one coin, at dimensions whose columns are short.
+pub fn check(f: &Field, s: &Space, word: &[u16], proof: &[u16], coin: u64) -> bool {
+    let (near, far) = word.split_at(word.len() / 8);
+    check_word(f, s, Word { near, far, slot: 0 }, proof, coin)
+}
