@@ -9,8 +9,7 @@ ghost use Rattle.host.specs.Answer.{CoinBits, HostAnswer};
 
 // The number of the first check that refuses the file, or 0.
 //
-// Ruled out: 0 for a file with a byte after its last record; 12 for a file that is cut in its last
-// record, since that gets 11.
+// Ruled out: 0 for a file with a byte after its last record; a number for an accepted file.
 #[no_mangle]
 pub extern "C" fn proximity_file_refusal(file: &[u8]) -> u32
     ensures { λ r. ⌜ Answers (fileChecks (now (file .entry))) r ⌝ }
@@ -23,8 +22,7 @@ pub extern "C" fn proximity_file_refusal(file: &[u8]) -> u32
 // The number of coin bits R of an accepted file's dimension: its coins are the numbers below 2^R.
 // 0 where the file is refused.
 //
-// Ruled out: the coin bits of the dimension that a refused file names; the number of coins in
-// place of their bits.
+// Ruled out: the 6 bits of dimension 7 for a refused file that names it; one bit more than R.
 #[no_mangle]
 pub extern "C" fn proximity_coin_bits(file: &[u8]) -> u32
     ensures { λ r. ⌜ CoinBits (now (file .entry)) r ⌝ }
@@ -42,7 +40,7 @@ pub extern "C" fn proximity_coin_bits(file: &[u8]) -> u32
 // or the number of a refusal (the file's checks, then 8), which leaves `reads` as it came.
 //
 // Ruled out: 0 for a file that is rejected at this coin; a number of reads that a refused call
-// writes, or that is not the number of the coin's positions.
+// writes, or 64 reads for every accepted file.
 #[no_mangle]
 pub extern "C" fn proximity_check_file(file: &[u8], coin: u64, reads: &mut u32) -> u32
     ensures { λ r. ⌜ HostAnswer (now (file .entry)) coin (now (reads .entry)) (now (reads .exit)) r ⌝ }
