@@ -13,3 +13,4 @@ pub mod WriterLaws
 pub mod Check
 pub mod Leaf
 pub mod CheckLaws
+pub mod OnSymbols

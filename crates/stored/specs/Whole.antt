@@ -36,6 +36,19 @@ pub record Gives (f : List ℕ) (m : ℕ) (bs w π : List ℕ) : Type 0 where
 
 -- ---- an accepted file
 
+pub accepted-delivery : (f : List ℕ) → Passes (fileChecks f) → Delivery (modulusIn f) (basisIn f) (wordIn f) (proofIn f)
+unfolding wordIn proofIn
+accepted-delivery f p =
+    let r = accepted f p .records in
+    let e = length-basis f in
+    record {
+      setting = r .setting;
+      word = length-tab (2 ^ dimIn f) (λ i. twoAt f (wordAt (dimIn f) + 2 * i)) ∙ ap (λ (k : ℕ). 2 ^ k) (sym e);
+      proof = length-tab (S (dimIn f)) (λ i. twoAt f (proofAt (dimIn f) + 2 * i)) ∙ ap S (sym e);
+      word-symbols = r .word .symbols;
+      proof-symbols = r .proof .symbols;
+    }
+
 module _ (f : List ℕ) (b : Below 256 f) where
   byte : (i : ℕ) → getD f i 0 < 256
   byte i = All-at (λ (x : ℕ). x < 256) f 0 b (omega arith) i
@@ -96,16 +109,3 @@ module _ (f : List ℕ) (b : Below 256 f) where
       (record-read (proofRecordAt k) 80 70 (S k) l (r .proof)
       ∙ ap (λ (t : List ℕ). proofRecord (numbersAt f (proofAt k) (S k)) ++ t) none
       ∙ append-nil (proofRecord (numbersAt f (proofAt k) (S k)))))
-
-  pub accepted-delivery : Passes (fileChecks f) → Delivery (modulusIn f) (basisIn f) (wordIn f) (proofIn f)
-  unfolding wordIn proofIn
-  accepted-delivery p =
-      let r = accepted f p .records in
-      let e = length-basis f in
-      record {
-        setting = r .setting;
-        word = length-tab (2 ^ dimIn f) (λ i. twoAt f (wordAt (dimIn f) + 2 * i)) ∙ ap (λ (k : ℕ). 2 ^ k) (sym e);
-        proof = length-tab (S (dimIn f)) (λ i. twoAt f (proofAt (dimIn f) + 2 * i)) ∙ ap S (sym e);
-        word-symbols = r .word .symbols;
-        proof-symbols = r .proof .symbols;
-      }

@@ -6,33 +6,32 @@ use native.Mathlib.Omega.{arith}
 use lib.ListN.{length}
 use Rattle.lists.specs.All.{All}
 use Rattle.lists.specs.Answers.{Checks, Passes, Refuses, answers-one}
+use Rattle.field.specs.Laws.{Ops}
 use Rattle.field.specs.Symbols.{symbols}
 use Rattle.space.specs.Setting.{settingChecks}
 use Rattle.proximity.specs.Dim.{dim, S}
 use Rattle.proximity.specs.Reads.{same-reads}
 use Rattle.proximity.specs.Verifier.{Accepts, positions}
-use Rattle.verifier.specs.Checker.{symbolsAt, deliveryChecks, checkerChecks, Told}
+use Rattle.verifier.specs.Checker.{symbolsAt, deliveryChecks, checkerChecks, Answered, Told}
 use Rattle.verifier.specs.declared.Verdict.{Verdict}
 use Rattle.verifier.specs.declared.Verdict.the-variants.{Accept, Reject, Refused}
 
-module _ (m : ℕ) (bs w π : List ℕ) (coin : ℕ) where
-  abbrev checks : Checks
-  checks = checkerChecks m bs w π coin
-
-  refused-not-passed : (n : ℕ) → Passes checks → Refuses checks n → ⊥
-  refused-not-passed n p (l, a) = let e : 0 ≡ n = answers-one checks p a in omega arith
+-- by any table of checks
+module _ (cs : Checks) (K : Ops) (k : ℕ) (bs w π : List ℕ) (coin : ℕ) where
+  refused-not-passed : (n : ℕ) → Passes cs → Refuses cs n → ⊥
+  refused-not-passed n p (l, a) = let e : 0 ≡ n = answers-one cs p a in omega arith
 
   -- one answer
-  pub told-one : (u v : Verdict) → Told m bs w π coin u → Told m bs w π coin v → u ≡ v
-  told-one (Accept a) (Accept b) (p, e, s) (q, f, t) = ap Accept (e ∙ sym f)
-  told-one (Accept a) (Reject b) (p, e, s) (q, f, t) = absurd (t s)
-  told-one (Accept a) (Refused b) (p, e, s) r = absurd (refused-not-passed b p r)
-  told-one (Reject a) (Accept b) (p, e, s) (q, f, t) = absurd (s t)
-  told-one (Reject a) (Reject b) (p, e, s) (q, f, t) = ap Reject (e ∙ sym f)
-  told-one (Reject a) (Refused b) (p, e, s) r = absurd (refused-not-passed b p r)
-  told-one (Refused a) (Accept b) r (q, f, t) = absurd (refused-not-passed a q r)
-  told-one (Refused a) (Reject b) r (q, f, t) = absurd (refused-not-passed a q r)
-  told-one (Refused a) (Refused b) (l, r) (k, s) = ap Refused (answers-one checks r s)
+  pub answered-one : (u v : Verdict) → Answered cs K k bs w π coin u → Answered cs K k bs w π coin v → u ≡ v
+  answered-one (Accept a) (Accept b) (p, e, s) (q, f, t) = ap Accept (e ∙ sym f)
+  answered-one (Accept a) (Reject b) (p, e, s) (q, f, t) = absurd (t s)
+  answered-one (Accept a) (Refused b) (p, e, s) r = absurd (refused-not-passed b p r)
+  answered-one (Reject a) (Accept b) (p, e, s) (q, f, t) = absurd (s t)
+  answered-one (Reject a) (Reject b) (p, e, s) (q, f, t) = ap Reject (e ∙ sym f)
+  answered-one (Reject a) (Refused b) (p, e, s) r = absurd (refused-not-passed b p r)
+  answered-one (Refused a) (Accept b) r (q, f, t) = absurd (refused-not-passed a q r)
+  answered-one (Refused a) (Reject b) r (q, f, t) = absurd (refused-not-passed a q r)
+  answered-one (Refused a) (Refused b) (l, r) (k, s) = ap Refused (answers-one cs r s)
 
 -- two deliveries of one length, alike at the coin's positions
 module _ (m : ℕ) (bs w π v ρ : List ℕ) (coin : ℕ) (lw : length w ≡ 2 ^ length bs) (lπ : length π ≡ S (length bs)) (lv : length v ≡ 2 ^ length bs) (lρ : length ρ ≡ S (length bs))

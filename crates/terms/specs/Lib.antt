@@ -4,3 +4,4 @@ pub mod Outcomes
 pub mod Cases
 pub mod Agreement
 pub mod Terms
+pub mod Files

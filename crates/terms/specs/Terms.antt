@@ -1,7 +1,8 @@
 -- The printed sentences. Each theorem is about what the calls' contracts say: `Told m bs w π coin v` is the contract of
--- verifier's `check` for its answer v on the modulus m, the basis bs, the word w, the proof π and the coin. Sentence 2 for the other calls: Agreement.antt.
+-- verifier's `check` for its answer v on the modulus m, the basis bs, the word w, the proof π and the coin. Sentence 2 for the other calls:
+-- Agreement.antt; stored files and the call from C: Files.antt.
 use mathlib.Core.Path.{_≡_, refl}
-use mathlib.Core.Logic.{_↔_, inr}
+use mathlib.Core.Logic.{_⊎_, _↔_, inl, inr}
 use mathlib.Core.List.{List, _++_, map}
 use Prim.Native.Nat.{ℕ, _*_, _^_, _≤_, _<_}
 use native.Mathlib.Omega.{arith}
@@ -18,22 +19,22 @@ use Rattle.proximity.specs.Proof.{Honest}
 use Rattle.proximity.specs.Reads.{few-reads}
 use Rattle.proximity.specs.Verifier.{Accepts, positions, readAt}
 use Rattle.proximity.specs.Verdict.{accepted-sym}
-use Rattle.verifier.specs.Checker.{symbolsAt, readsOf, Told}
+use Rattle.verifier.specs.Checker.{symbolsAt, readsOf, checkerChecks, Told}
 use Rattle.verifier.specs.Verdicts.{told-coin, delivery-passes}
 use Rattle.verifier.specs.declared.Verdict.{Verdict}
-use Rattle.verifier.specs.declared.Verdict.the-variants.{Accept}
+use Rattle.verifier.specs.declared.Verdict.the-variants.{Accept, Reject}
 use Rattle.codec.specs.Calls.{wordChecks}
 use Rattle.codec.specs.RoundTrip.{word-passes}
 use Rattle.codec.specs.declared.Outcome.the-variants.{Done}
 use Rattle.prover.specs.Calls.{lengthChecks, Proven}
 use Rattle.prover.proofs.CallLaws.{lengths-right}
-use Rattle.terms.specs.Answer.{told-one, same-answer}
+use Rattle.terms.specs.Answer.{answered-one, same-answer}
 
 -- ---- the checker
 
 -- The call gives one answer.
 pub one-answer : (m : ℕ) (bs w π : List ℕ) (coin : ℕ) (u v : Verdict) → Told m bs w π coin u → Told m bs w π coin v → u ≡ v
-one-answer = told-one
+one-answer m bs w π coin = answered-one (checkerChecks m bs w π coin) (symbols m) (length bs) bs w π coin
 
 -- A setting is sound when it passes checks 1 to 5 (`Sound`); the right lengths are 2^k and S(k), k being the basis's length.
 module _ (m : ℕ) (bs : List ℕ) (s : Sound m bs) (w π : List ℕ) (lw : length w ≡ 2 ^ length bs) (lπ : length π ≡ S (length bs)) where
@@ -88,9 +89,10 @@ module _ (m : ℕ) (bs : List ℕ) (s : Sound m bs) (w π : List ℕ) (lw : leng
 pub at-most-64-reads : (k coin : ℕ) → length (positions (dim k) coin) ≤ 64
 at-most-64-reads k coin = few-reads (dim k) coin
 
--- and the number that comes with a verdict is theirs.
-pub reads-told : (m : ℕ) (bs w π : List ℕ) (coin n : ℕ) → Told m bs w π coin (Accept n) → n ≡ length (positions (dim (length bs)) coin)
-reads-told m bs w π coin n (p, e, a) = e
+-- and the number that comes with a verdict, accept or reject, is theirs.
+pub reads-told : (m : ℕ) (bs w π : List ℕ) (coin n : ℕ) → Told m bs w π coin (Accept n) ⊎ Told m bs w π coin (Reject n) → n ≡ length (positions (dim (length bs)) coin)
+reads-told m bs w π coin n (inl (p, e, a)) = e
+reads-told m bs w π coin n (inr (p, e, a)) = e
 
 -- Two deliveries of the right lengths alike at these positions get the same answer at that coin, a refusal included.
 pub alike-at-the-positions : (m : ℕ) (bs w π v ρ : List ℕ) (coin : ℕ) → length w ≡ 2 ^ length bs → length π ≡ S (length bs) → length v ≡ 2 ^ length bs → length ρ ≡ S (length bs)

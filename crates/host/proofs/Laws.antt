@@ -1,0 +1,36 @@
+-- From the answers of `stored` to those for C. Assumes nothing.
+use mathlib.Core.Path.{_≡_, refl, sym, ap, subst}
+use mathlib.Core.Logic.{inl, inr}
+use mathlib.Core.List.{List}
+use Prim.Native.Nat.{ℕ, _≤_}
+use native.Mathlib.Omega.{arith}
+use Rattle.lists.specs.Answers.{Checks, Answers}
+use Rattle.proximity.specs.Dim.{dim}
+use Rattle.proximity.specs.Reads.{few-reads}
+use Rattle.verifier.specs.declared.Verdict.{Verdict}
+use Rattle.verifier.specs.declared.Verdict.the-variants.{Accept, Reject}
+use Rattle.stored.specs.Check.{AnsweredFile}
+use Rattle.stored.specs.File.{dimIn}
+use Rattle.stored.specs.Reader.{readOf, Told}
+use Rattle.stored.specs.declared.Reading.{Reading}
+use Rattle.host.specs.Answer.{codeOf, readsAfter, HostAnswer}
+
+-- the number that the reader tells
+pub told-answer : (cs : Checks) (f : List ℕ) (r : Reading) → Told cs f r → Answers cs (r .refusal)
+unfolding readOf
+told-answer cs f r (inl (p, e)) = subst (Answers cs) (sym (ap (λ (x : Reading). x .refusal) e)) p
+told-answer cs f r (inr ((l, a), e)) = a
+
+module _ (f : List ℕ) (coin : ℕ) (v : Verdict) (a : AnsweredFile f coin v) where
+  -- the case of the answer
+  at-case : (u : Verdict) → v ≡ u → AnsweredFile f coin u
+  at-case u e = subst (AnsweredFile f coin) e a
+
+  pub few-accepted : (n : ℕ) → v ≡ Accept n → n ≤ 64
+  few-accepted n e = omega (arith, at-case (Accept n) e .1, few-reads (dim (dimIn f)) coin)
+
+  pub few-rejected : (n : ℕ) → v ≡ Reject n → n ≤ 64
+  few-rejected n e = omega (arith, at-case (Reject n) e .1, few-reads (dim (dimIn f)) coin)
+
+  pub host-answer : (u : Verdict) → v ≡ u → (before : ℕ) → HostAnswer f coin before (readsAfter before u) (codeOf u)
+  host-answer u e before = (u, at-case u e, refl, refl)

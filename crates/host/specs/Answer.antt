@@ -1,0 +1,32 @@
+-- The answers of the calls from C, as numbers. Definitions only.
+use mathlib.Core.Path.{_≡_}
+use mathlib.Core.Logic.{_⊎_}
+use mathlib.Core.List.{List}
+use Prim.Native.Nat.{ℕ}
+use Rattle.lists.specs.Answers.{Passes}
+use Rattle.proximity.specs.Dim.{R}
+use Rattle.verifier.specs.declared.Verdict.{Verdict}
+use Rattle.verifier.specs.declared.Verdict.the-variants.{Accept, Reject, Refused}
+use Rattle.stored.specs.Check.{AnsweredFile}
+use Rattle.stored.specs.File.{dimIn}
+use Rattle.stored.specs.Reader.{fileChecks}
+
+-- 0 for accept, 100 for reject, else the number of the refusal
+abbrev pub codeOf : Verdict → ℕ
+codeOf (Accept n) = 0
+codeOf (Reject n) = 100
+codeOf (Refused n) = n
+
+-- what the lent number of reads holds afterwards: a refused call leaves what it held before
+abbrev pub readsAfter : ℕ → Verdict → ℕ
+readsAfter before (Accept n) = n
+readsAfter before (Reject n) = n
+readsAfter before (Refused n) = before
+
+-- the checker for one coin over the file f: the answer r, and the lent number of reads before and after
+abbrev pub HostAnswer : List ℕ → ℕ → ℕ → ℕ → ℕ → Type 0
+HostAnswer f coin before after r = (v : Verdict) × AnsweredFile f coin v × (r ≡ codeOf v) × (after ≡ readsAfter before v)
+
+-- R of an accepted file's dimension, and 0 for a refused one
+abbrev pub CoinBits : List ℕ → ℕ → Type 0
+CoinBits f r = (Passes (fileChecks f) × (r ≡ R (dimIn f))) ⊎ ((Passes (fileChecks f) → ⊥) × (r ≡ 0))

@@ -1,0 +1,265 @@
+/* Compares the host kit's calls with what the specification says of literal files. Each file is lent from an allocation of
+ * exactly its length, so that a read past it shows under valgrind. */
+#include <inttypes.h>
+#include <stdio.h>
+#include <stdlib.h>
+#include <string.h>
+
+#include "proximity.h"
+
+static int passed, failed;
+
+static void expect(const char *what, uint32_t got, uint32_t want)
+{
+    if (got == want) {
+        passed++;
+        return;
+    }
+    failed++;
+    printf("%s: %" PRIu32 " in place of %" PRIu32 "\n", what, got, want);
+}
+
+/* A copy of exactly this length. */
+static uint8_t *copy_of(const uint8_t *bytes, size_t length)
+{
+    uint8_t *file = malloc(length);
+
+    if (file == NULL)
+        abort();
+    memcpy(file, bytes, length);
+    return file;
+}
+
+/* What the number of reads holds before each call. */
+#define UNREAD 77777u
+
+static void answers(const char *what, const uint8_t *file, size_t length, uint64_t coin, uint32_t answer, uint32_t symbols)
+{
+    uint32_t reads = UNREAD;
+
+    expect(what, proximity_check_file(file, length, coin, &reads), answer);
+    expect(what, reads, symbols);
+}
+
+/* Every call refuses the file, whatever the coin. */
+static void refused(const char *what, const uint8_t *bytes, size_t length, uint32_t number)
+{
+    uint8_t *file = copy_of(bytes, length);
+
+    expect(what, proximity_file_refusal(file, length), number);
+    expect(what, proximity_coin_bits(file, length), 0);
+    answers(what, file, length, 0, number, UNREAD);
+    answers(what, file, length, UINT64_MAX, number, UNREAD);
+    free(file);
+}
+
+/* ---- k = 3: the file that the specification prints */
+
+static const uint8_t sample[] = {
+    0x53, 0x45, 0x0B, 0, 0, 0, 3, 1, 0, 2, 0, 4, 0,
+    0x57, 0x4F, 8, 0, 0, 0, 5, 0, 5, 0, 5, 0, 5, 0, 5, 0, 5, 0, 5, 0, 5, 0,
+    0x50, 0x46, 0, 0, 0, 0,
+};
+
+/* The sample's first bytes, with one byte changed. */
+static void cut_and_changed(const char *what, size_t length, size_t at, uint8_t byte, uint32_t number)
+{
+    uint8_t bytes[sizeof sample];
+
+    memcpy(bytes, sample, sizeof sample);
+    bytes[at] = byte;
+    refused(what, bytes, length, number);
+}
+
+static void changed(const char *what, size_t at, uint8_t byte, uint32_t number)
+{
+    cut_and_changed(what, sizeof sample, at, byte, number);
+}
+
+static void accepted_sample(void)
+{
+    uint8_t *file = copy_of(sample, sizeof sample);
+    size_t i;
+
+    expect("sample", proximity_file_refusal(file, sizeof sample), 0);
+    expect("bits of the sample", proximity_coin_bits(file, sizeof sample), 0);
+    answers("sample", file, sizeof sample, 0, PROXIMITY_ACCEPT, 8);
+    answers("sample at coin 1", file, sizeof sample, 1, PROXIMITY_COIN, UNREAD);
+    for (i = 19; i < 35; i += 2) {
+        file[i] = 6;
+        answers("sample with one 6", file, sizeof sample, 0, PROXIMITY_REJECT, 8);
+        file[i] = 5;
+    }
+    free(file);
+}
+
+static void refused_settings(void)
+{
+    changed("modulus 7", 2, 7, PROXIMITY_MODULUS_RANGE);
+    changed("modulus 131083", 4, 2, PROXIMITY_MODULUS_RANGE);
+    changed("modulus 15", 2, 15, PROXIMITY_MODULUS_REDUCIBLE);
+    changed("modulus 21", 2, 21, PROXIMITY_MODULUS_REDUCIBLE);
+    changed("no basis", 6, 0, PROXIMITY_BASIS_SIZE);
+    changed("k = 2", 6, 2, PROXIMITY_BASIS_SIZE);
+    changed("k = 13", 6, 13, PROXIMITY_BASIS_SIZE);
+    changed("basis element 8", 11, 8, PROXIMITY_BASIS_RANGE);
+    changed("basis element 260", 12, 1, PROXIMITY_BASIS_RANGE);
+    changed("basis 1, 2, 3", 11, 3, PROXIMITY_BASIS_DEPENDENT);
+    changed("basis 1, 2, 2", 11, 2, PROXIMITY_BASIS_DEPENDENT);
+    changed("basis 0, 2, 4", 7, 0, PROXIMITY_BASIS_DEPENDENT);
+}
+
+static void refused_records(void)
+{
+    static const size_t marks[] = {0, 1, 13, 14, 35, 36};
+    size_t i;
+
+    for (i = 0; i < sizeof marks / sizeof *marks; i++)
+        changed("mark", marks[i], sample[marks[i]] ^ 1, PROXIMITY_CUT);
+    changed("7 symbols in the word", 15, 7, PROXIMITY_COUNT);
+    changed("9 symbols in the word", 15, 9, PROXIMITY_COUNT);
+    changed("1 symbol in the proof", 37, 1, PROXIMITY_COUNT);
+    for (i = 0; i < 3; i++) {
+        changed("high byte of the word's count", 16 + i, 1, PROXIMITY_COUNT);
+        changed("high byte of the proof's count", 38 + i, 1, PROXIMITY_COUNT);
+    }
+    for (i = 19; i < 35; i += 2) {
+        changed("symbol 8", i, 8, PROXIMITY_SYMBOL);
+        changed("symbol 261", i + 1, 1, PROXIMITY_SYMBOL);
+    }
+}
+
+/* Every length but the right one, and which check comes first in a file that is cut. */
+static void refused_lengths(void)
+{
+    uint8_t longer[sizeof sample + 1] = {0};
+    size_t length;
+
+    for (length = 0; length < sizeof sample; length++)
+        refused("cut", sample, length, PROXIMITY_CUT);
+    memcpy(longer, sample, sizeof sample);
+    refused("a byte appended", longer, sizeof longer, PROXIMITY_COUNT);
+    cut_and_changed("modulus 7 cut in the head", 6, 2, 7, PROXIMITY_CUT);
+    cut_and_changed("modulus 7 without a basis", 7, 2, 7, PROXIMITY_MODULUS_RANGE);
+    cut_and_changed("modulus 15 without a basis", 7, 2, 15, PROXIMITY_MODULUS_REDUCIBLE);
+    cut_and_changed("k = 13 without a basis", 7, 6, 13, PROXIMITY_BASIS_SIZE);
+    cut_and_changed("basis element 8 without a word", 13, 11, 8, PROXIMITY_BASIS_RANGE);
+    cut_and_changed("7 symbols, and none there", 19, 15, 7, PROXIMITY_COUNT);
+    cut_and_changed("symbol 8 in a word that is cut", 34, 19, 8, PROXIMITY_CUT);
+    cut_and_changed("symbol 8 without a proof", 35, 19, 8, PROXIMITY_SYMBOL);
+}
+
+/* ---- files of zeros, with the basis 1, 2, 4 and so on */
+
+static void put(uint8_t *at, uint32_t number, int bytes)
+{
+    for (; bytes > 0; bytes--, number >>= 8)
+        *at++ = number & 0xFF;
+}
+
+struct zeros {
+    uint8_t *file, *word, *proof;
+    size_t length;
+};
+
+static struct zeros zeros_of(uint32_t modulus, uint32_t k, uint32_t size)
+{
+    struct zeros z;
+    uint32_t n = (uint32_t)1 << k, i;
+
+    z.length = 7 + 2 * k + 6 + 2 * n + 6 + 2 * size;
+    z.file = calloc(z.length, 1);
+    if (z.file == NULL)
+        abort();
+    z.word = z.file + 7 + 2 * k + 6;
+    z.proof = z.word + 2 * n + 6;
+    put(z.file, 0x4553, 2);
+    put(z.file + 2, modulus, 4);
+    put(z.file + 6, k, 1);
+    for (i = 0; i < k; i++)
+        put(z.file + 7 + 2 * i, (uint32_t)1 << i, 2);
+    put(z.word - 6, 0x4F57, 2);
+    put(z.word - 4, n, 4);
+    put(z.proof - 6, 0x4650, 2);
+    put(z.proof - 4, size, 4);
+    return z;
+}
+
+/* All 64 coins of k = 7: an even one reads a row of 64 symbols, an odd one a column of 16. Bit i of `rejects` is set where coin
+ * i rejects. */
+static void all_coins(const char *what, struct zeros z, uint64_t rejects)
+{
+    uint32_t coin;
+
+    for (coin = 0; coin < 64; coin++)
+        answers(what, z.file, z.length, coin, rejects >> coin & 1 ? PROXIMITY_REJECT : PROXIMITY_ACCEPT, coin % 2 ? 16 : 64);
+}
+
+static uint64_t bit(uint32_t i)
+{
+    return (uint64_t)1 << i;
+}
+
+static void dimension_7(void)
+{
+    struct zeros z = zeros_of(283, 7, 896);
+
+    expect("k = 7", proximity_file_refusal(z.file, z.length), 0);
+    expect("bits at k = 7", proximity_coin_bits(z.file, z.length), 6);
+    all_coins("zeros", z, 0);
+    answers("coin 64", z.file, z.length, 64, PROXIMITY_COIN, UNREAD);
+    answers("coin 2^32", z.file, z.length, bit(32), PROXIMITY_COIN, UNREAD);
+    answers("coin 2^63", z.file, z.length, bit(63), PROXIMITY_COIN, UNREAD);
+
+    /* position 0 of the proof is position 8 of row 0, which coins 0 and 32 take, and lies in column 8 */
+    z.proof[0] = 1;
+    all_coins("proof position 0", z, bit(0) | bit(32) | bit(1 + 2 * 8));
+    z.proof[0] = 0;
+
+    /* position 32 of the word is in block 4 of row 4, and in no column */
+    z.word[2 * 32] = 1;
+    all_coins("word position 32", z, bit(2 * 4) | bit(32 + 2 * 4));
+    z.word[2 * 32] = 0;
+
+    refused("k = 7, cut", z.file, z.length - 1, PROXIMITY_CUT);
+    z.proof[2 * 895 + 1] = 1;
+    refused("the last symbol 256", z.file, z.length, PROXIMITY_SYMBOL);
+    z.proof[2 * 895 + 1] = 0;
+    z.proof[-4] = 0x81;
+    refused("897 symbols in the proof", z.file, z.length, PROXIMITY_COUNT);
+    free(z.file);
+}
+
+/* The proof lengths and coin bits by dimension. The last coin takes a column, coin 0 rows down to one of 64 symbols. */
+static void dimensions(void)
+{
+    static const struct {
+        uint32_t k, size, bits, column;
+    } table[] = {
+        {7, 896, 6, 16}, {8, 16128, 11, 16}, {9, 32256, 12, 32}, {10, 523264, 17, 32}, {11, 1046528, 18, 64}, {12, 2093056, 19, 64},
+    };
+    size_t i;
+
+    for (i = 0; i < sizeof table / sizeof *table; i++) {
+        struct zeros z = zeros_of(4105, table[i].k, table[i].size);
+
+        expect("dimension", proximity_file_refusal(z.file, z.length), 0);
+        expect("coin bits", proximity_coin_bits(z.file, z.length), table[i].bits);
+        answers("coin 0", z.file, z.length, 0, PROXIMITY_ACCEPT, 64);
+        answers("last coin", z.file, z.length, bit(table[i].bits) - 1, PROXIMITY_ACCEPT, table[i].column);
+        answers("coin past the last", z.file, z.length, bit(table[i].bits), PROXIMITY_COIN, UNREAD);
+        free(z.file);
+    }
+}
+
+int main(void)
+{
+    accepted_sample();
+    refused_settings();
+    refused_records();
+    refused_lengths();
+    dimension_7();
+    dimensions();
+    printf("%d passed, %d failed\n", passed, failed);
+    return failed != 0;
+}
