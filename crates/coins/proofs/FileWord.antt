@@ -1,0 +1,83 @@
+-- The word of an accepted file of at most 40000 bytes. Assumes nothing.
+use mathlib.Core.Path.{_≡_, sym, ap, ap₂, _∙_, subst, transport}
+use mathlib.Core.List.{List}
+use Prim.Native.Nat.{ℕ, _+_, _-_, _*_, _%_, _^_, _≤_, _<_}
+use native.Mathlib.Decide.{decLt}
+use native.Mathlib.Omega.{arith}
+use lib.ListN.{length, getD, drop}
+use lib.Pow.{pow-mono}
+use lib.Seq.{getD-drop}
+use Rattle.lists.specs.All.{Below, All-inside}
+use Rattle.lists.specs.Answers.{Passes}
+use Rattle.lists.specs.Tables.{table-at, length-tab}
+use Rattle.field.specs.Binary.{degree}
+use Rattle.field.specs.Symbols.{symbols}
+use Rattle.proximity.specs.Dim.{S}
+use Rattle.proximity.specs.Tree.{lengths, tables-right}
+use Rattle.verifier.proofs.Laws.{one-shifted}
+use Rattle.transform.specs.Blocks.{InBlocks}
+use Rattle.stored.specs.Accepted.{accepted, read-places}
+use Rattle.stored.specs.Bytes.{twoAt, numbersAt}
+use Rattle.stored.specs.CheckLaws.{read-passes, read-ready, read-dimension, read-space, read-images, read-below}
+use Rattle.stored.specs.File.{modulusIn, dimIn, basisIn, wordIn}
+use Rattle.stored.specs.Reader.{fileChecks}
+use Rattle.stored.specs.declared.Reading.{Reading}
+use Rattle.coins.specs.Tally.{Readable}
+use Rattle.coins.specs.Totals.{Off}
+
+-- proofs of dimension 9 and more are long
+long-proof : (k : ℕ) → 9 ≤ k → k ≤ 12 → 20000 < S k
+long-proof k h l =
+    let place : 9 + (k - 9) ≡ k = omega arith in
+    subst (λ (x : ℕ). 20000 < x)
+    (getD-drop 9 lengths (k - 9) 0 ∙ ap (λ (i : ℕ). getD lengths i 0) place ∙ table-at S lengths 15 (tables-right .0) k (omega arith))
+    (All-inside (λ (x : ℕ). 20000 < x) (drop 9 lengths) 0 (omega arith) (k - 9) (omega arith))
+
+-- so that the dimension is at most 8
+pub small-dimension : (f : List ℕ) → Passes (fileChecks f) → length f ≤ 40000 → dimIn f ≤ 8
+small-dimension f p h = by (decLt 8 (dimIn f))
+  where
+    by : Dec (8 < dimIn f) → dimIn f ≤ 8
+    by (no g) = omega arith
+    by (yes g) = let a = accepted f p in absurd (omega (arith, a .whole, long-proof (dimIn f) g (a .records .head .high)))
+
+-- the number of symbols, as it is computed
+abbrev pub symbolCount : ℕ → ℕ
+symbolCount k = 1 * 2 ^ k % 18446744073709551616
+
+module _ (f : List ℕ) (r : Reading) (a : Readable f r) where
+  abbrev k : ℕ
+  k = r .setting .space .k
+
+  pub small : length f ≤ 40000 → k ≤ 8
+  small h = omega (arith, read-dimension f r (a .0) (a .1), small-dimension f (read-passes f r (a .0) (a .1)) h)
+
+  module _ (h : length f ≤ 40000) where
+    pub count-is : symbolCount k ≡ 2 ^ k
+    count-is = one-shifted k (omega (arith, small h))
+
+    pub few-symbols : symbolCount k ≤ 256
+    few-symbols = omega (arith, count-is, pow-mono {i = k} {j = 8} (small h))
+
+    pub word-blocks : (w : List ℕ) → w ≡ numbersAt f (r .word) (symbolCount k) → InBlocks (r .setting .field) (r .setting .space .images) k w
+    word-blocks w e =
+        let s = read-space f r (a .0) (a .1) in
+        record {
+          sized = s .sized;
+          irreducible = s .irreducible;
+          low = s .low;
+          high = s .high;
+          long = ap length e ∙ length-tab (symbolCount k) (λ i. twoAt f (r .word + 2 * i)) ∙ count-is;
+          image-symbols = read-images f r (a .0) (a .1) .elements;
+          symbols = subst (Below (2 ^ degree (r .setting .field .modulus))) (sym (e ∙ ap (numbersAt f (r .word)) count-is)) (read-below f r (a .0) (a .1) .0);
+        }
+
+    -- what is off in the word that was read
+    pub word-off : (w : List ℕ) (n : ℕ) → w ≡ numbersAt f (r .word) (symbolCount k) → Off (symbols (r .setting .field .modulus)) k (basisIn f) w n
+        → Off (symbols (modulusIn f)) (dimIn f) (basisIn f) (wordIn f) n
+    unfolding wordIn
+    word-off w n e o =
+        let modulus : r .setting .field .modulus ≡ modulusIn f = read-ready f r (a .0) (a .1) .modulus in
+        let dimension : k ≡ dimIn f = read-dimension f r (a .0) (a .1) in
+        let same : w ≡ wordIn f = e ∙ ap₂ (numbersAt f) (read-places f r (a .0) (a .1) .word) (count-is ∙ ap (λ (j : ℕ). 2 ^ j) dimension) in
+        transport (λ i. Off (symbols (modulus i)) (dimension i) (basisIn f) (same i) n) o

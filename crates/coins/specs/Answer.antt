@@ -1,0 +1,127 @@
+-- The counter's answer: from its stages, and that it is one. Assumes nothing.
+use mathlib.Core.Path.{_≡_, refl, sym, ap, _∙_, subst}
+use mathlib.Core.Logic.{inl, inr, _↔_}
+use mathlib.Core.List.{List, List-discrete}
+use Prim.Native.Nat.{ℕ, _+_, _*_, _^_, _≤_, _<_}
+use native.Mathlib.Decide.{ℕ-discrete}
+use native.Mathlib.Omega.{arith}
+use lib.ListN.{length}
+use lib.Pow.{pow-pos}
+use Rattle.lists.specs.All.{Below, All-at}
+use Rattle.lists.specs.Answers.{Answers, Passes, answers-one}
+use Rattle.lists.specs.Tables.{length-tab}
+use Rattle.field.specs.Binary.{degree}
+use Rattle.field.specs.Laws.{Ops, IsField}
+use Rattle.field.specs.Symbols.{symbols}
+use Rattle.poly.specs.Codeword.{Basis}
+use Rattle.space.specs.Sound.{sound-field}
+use Rattle.proximity.specs.Dim.{dim, S, R}
+use Rattle.proximity.specs.Verdict.{verdict}
+use Rattle.proximity.specs.Verifier.{Accepts, positions}
+use Rattle.verifier.specs.Checker.{symbolsAt, readsOf}
+use Rattle.stored.specs.Accepted.{Accepted, accepted}
+use Rattle.stored.specs.Bytes.{twoAt}
+use Rattle.stored.specs.CheckLaws.{coin-passes}
+use Rattle.stored.specs.File.{wordAt, proofAt, modulusIn, dimIn, basisIn, wordIn, proofIn}
+use Rattle.stored.specs.Leaf.{symbols-below}
+use Rattle.stored.specs.Passed.{length-basis}
+use Rattle.stored.specs.Reader.{fileChecks}
+use Rattle.stored.specs.declared.Reading.{Reading}
+use Rattle.coins.specs.Counted.{Counted, counted-one, counted-none}
+use Rattle.coins.specs.OffLaws.{off-one}
+use Rattle.coins.specs.Totals.{Rejects, countChecks, Totals, noCounts, Told}
+use Rattle.coins.specs.declared.Counts.{Counts}
+
+-- ---- from the stages
+
+module _ (f : List ℕ) (r : Counts) where
+  told-number : (n : ℕ) → 0 < n → Answers (countChecks f) n → r ≡ noCounts n → Told f r
+  unfolding noCounts
+  told-number n h a e =
+      let same : r .refusal ≡ n = ap (λ (x : Counts). x .refusal) e in
+      inr ((omega arith, subst (Answers (countChecks f)) (sym same) a), e ∙ ap noCounts (sym same))
+
+  pub told-long : 40000 < length f → r ≡ noCounts 6 → Told f r
+  told-long h e = told-number 6 (omega arith) (inl (h, refl)) e
+
+  module _ (h : length f ≤ 40000) where
+    pub told-refused : (s : Reading) → Rattle.stored.specs.Reader.Told (fileChecks f) f s → (s .refusal ≡ 0 → ⊥) → r ≡ noCounts (s .refusal) → Told f r
+    unfolding Rattle.stored.specs.Reader.readOf
+    told-refused s (inl (p, e)) n g = absurd (n (ap (λ (x : Reading). x .refusal) e))
+    told-refused s (inr ((l, a), e)) n g = told-number (s .refusal) l (inr ((λ k. omega arith), a)) g
+
+    pub told-totals : Passes (fileChecks f) → r .refusal ≡ 0 → Totals f r → Told f r
+    told-totals p z t = inl (inr ((λ k. omega arith), p), z, t)
+
+-- ---- an accepted file
+
+equation-stable : {A : Type 0} {xs ys : List ℕ} → A ↔ (xs ≡ ys) → ((A → ⊥) → ⊥) → A
+equation-stable {A} {xs} {ys} iff n = by (List-discrete ℕ-discrete xs ys)
+  where
+    by : Dec (xs ≡ ys) → A
+    by (yes e) = iff .1 e
+    by (no g) = absurd (n (λ a. g (iff .0 a)))
+
+module _ (f : List ℕ) where
+  passes-file : Passes (countChecks f) → Passes (fileChecks f)
+  passes-file (inl a) = absurd (omega arith)
+  passes-file (inr a) = a .1
+
+  module _ (p : Passes (fileChecks f)) where
+    abbrev K : Ops
+    K = symbols (modulusIn f)
+
+    held : Accepted f
+    held = accepted f p
+
+    field : IsField K
+    field = sound-field (held .records .setting)
+
+    basis : Basis K (dimIn f) (basisIn f)
+    basis = subst (λ (k : ℕ). Basis K k (basisIn f)) (length-basis f) (held .records .setting .basis)
+
+    -- acceptance is decided
+    accepts-stable : (coin : ℕ) → ((Accepts K (dim (dimIn f)) (basisIn f) (wordIn f) (proofIn f) coin → ⊥) → ⊥) → Accepts K (dim (dimIn f)) (basisIn f) (wordIn f) (proofIn f) coin
+    unfolding wordIn proofIn
+    accepts-stable coin =
+        equation-stable
+        (verdict field (dim (dimIn f)) (basisIn f) (wordIn f) (proofIn f) basis word-length proof-length coin
+        (λ i h. All-at (λ (x : ℕ). x < 2 ^ degree (modulusIn f)) (symbolsAt (dimIn f) (wordIn f) (proofIn f) coin) 0 read-below (pow-pos (degree (modulusIn f))) i))
+      where
+        word-length : length (wordIn f) ≡ 2 ^ dimIn f
+        word-length = length-tab (2 ^ dimIn f) (λ i. twoAt f (wordAt (dimIn f) + 2 * i))
+
+        proof-length : length (proofIn f) ≡ S (dimIn f)
+        proof-length = length-tab (S (dimIn f)) (λ i. twoAt f (proofAt (dimIn f) + 2 * i))
+
+        read-below : Below (2 ^ degree (modulusIn f)) (symbolsAt (dimIn f) (wordIn f) (proofIn f) coin)
+        read-below =
+            symbols-below (2 ^ degree (modulusIn f)) (wordIn f) (proofIn f) (pow-pos (degree (modulusIn f))) (held .records .word .symbols) (held .records .proof .symbols)
+            (positions (dim (dimIn f)) coin)
+
+    -- no coin rejects exactly when every coin accepts
+    pub no-rejects : {c : ℕ} → Counted (Rejects f) (2 ^ R (dimIn f)) c
+        → (c ≡ 0) ↔ ((coin : ℕ) → coin < 2 ^ R (dimIn f) → Accepts K (dim (dimIn f)) (basisIn f) (wordIn f) (proofIn f) coin)
+    no-rejects a =
+        let none = counted-none (Rejects f) (2 ^ R (dimIn f)) a in (
+          (λ z coin h. accepts-stable coin (λ n. none .0 z coin h (readsOf (dimIn f) coin, (coin-passes f coin p h, refl, n)))),
+          λ g. none .1 (λ coin h (n, (q, e, s)). s (g coin h)),
+        )
+
+-- ---- the answer is one
+
+module _ (f : List ℕ) where
+  same-totals : Passes (fileChecks f) → (r s : Counts) → r .refusal ≡ s .refusal → Totals f r → Totals f s → r ≡ s
+  same-totals p r s e t u =
+      let k : r .k ≡ s .k = t .k ∙ sym (u .k) in
+      let coins : r .coins ≡ s .coins = t .coins ∙ sym (u .coins) in
+      let rejects : r .rejects ≡ s .rejects = counted-one (Rejects f) (2 ^ R (dimIn f)) (t .rejects) (u .rejects) in
+      let most : r .most ≡ s .most = t .most ∙ sym (u .most) in
+      let off : r .off ≡ s .off = off-one (field f p) (dimIn f) (basisIn f) (basis f p) (wordIn f) (t .off) (u .off) in
+      λ i. record { refusal = e i; k = k i; coins = coins i; rejects = rejects i; most = most i; off = off i }
+
+  pub one-count : (r s : Counts) → Told f r → Told f s → r ≡ s
+  one-count r s (inl (p, z, t)) (inl (q, y, u)) = same-totals (passes-file f p) r s (z ∙ sym y) t u
+  one-count r s (inl (p, z, t)) (inr ((l, b), g)) = absurd (omega (arith, answers-one (countChecks f) p b))
+  one-count r s (inr ((l, a), e)) (inl (q, y, u)) = absurd (omega (arith, answers-one (countChecks f) a q))
+  one-count r s (inr ((l, a), e)) (inr ((m, b), g)) = e ∙ ap noCounts (answers-one (countChecks f) a b) ∙ sym g

@@ -1,0 +1,50 @@
+// The totals over all coins of a stored file.
+mod off;
+mod tally;
+
+ghost use mathlib.Core.Path.{_≡_};
+ghost use Rattle.coins.specs.Totals.{noCounts, Told};
+
+// A refusal's number and zeros; or 0, the dimension, the number of coins, how many of them reject,
+// the most symbols that one of them reads, and at how many positions the word differs from the
+// polynomial through its first eighth.
+pub struct Counts {
+    pub refusal: u8,
+    pub k: usize,
+    pub coins: u64,
+    pub rejects: u64,
+    pub most: usize,
+    pub off: usize,
+}
+
+fn refused(number: u8) -> Counts
+    ensures { λ r. ⌜ r ≡ noCounts number ⌝ }
+{
+    Counts {
+        refusal: number,
+        k: 0,
+        coins: 0,
+        rejects: 0,
+        most: 0,
+        off: 0,
+    }
+}
+
+// Tries all coins of a stored file of at most 40000 bytes: check 6, the file's checks, the totals.
+//
+// Ruled out: a reject count that is not the number of coins whose verdict is reject; 11 or 12 for a
+// file of more than 40000 bytes, since that gets 6 first.
+pub fn count(file: &[u8]) -> Counts
+    ensures { λ r. ⌜ Told (now (file .entry)) r ⌝ }
+{
+    if 40000 < file.len() {
+        return refused(6);
+    }
+    let r = stored::read(file);
+    let number = r.refusal;
+    if number != 0 {
+        return refused(number);
+    }
+    let off = off::off(file, r);
+    tally::totals(file, r, off)
+}
