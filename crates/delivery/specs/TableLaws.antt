@@ -3,21 +3,22 @@ use mathlib.Core.Path.{_≡_, refl, subst, ap, _∙_, sym}
 use mathlib.Core.Logic.{_⊎_, inl, inr}
 use mathlib.Core.List.{List, [], _∷_, _++_}
 use Prim.Native.Nat.{ℕ, _+_, _*_, _-_, _^_, _≤_, _<_}
-use native.Mathlib.Decide.{decLe, decLt}
+use native.Mathlib.Decide.{decLe}
 use native.Mathlib.Omega.{arith}
 use lib.ListN.{length}
-use Rattle.lists.specs.All.{All, All-at, All-inside}
+use Rattle.lists.specs.All.{All-at, All-inside}
 use Rattle.lists.specs.Answers.{Checks, Answers, Passes, Numbered, answers-after, refused-first, passes-each}
-use Rattle.lists.specs.Tables.{tab, table-at}
+use Rattle.lists.specs.Tables.{tab, length-tab, table-at}
 use Rattle.field.specs.Binary.{degree}
 use Rattle.field.specs.Checks.{not-less}
 use Rattle.proximity.specs.Dim.{dim, S}
 use Rattle.stored.specs.Accepted.{setting-numbered, setting-passed}
-use Rattle.stored.specs.File.{fileEnd, modulusIn, dimIn}
+use Rattle.stored.specs.Bytes.{twoAt}
+use Rattle.stored.specs.File.{fileEnd, modulusIn, dimIn, basisIn}
 use Rattle.stored.specs.Passed.{length-basis, record-numbered, record-passed}
 use Rattle.stored.specs.Reader.{settingChecks, recordChecks}
-use Rattle.delivery.specs.Parts.{Passed}
-use Rattle.delivery.specs.Table.{coefficientRecordAt, tableEnd, roomChecks, coefficientChecks, tableChecks}
+use Rattle.delivery.specs.Parts.{Coefficients, Passed}
+use Rattle.delivery.specs.Table.{coefficientRecordAt, coefficientsAt, tableEnd, coefficientsIn, roomChecks, coefficientChecks, tableChecks}
 
 -- ---- dimensions whose file has at most 40000 bytes
 
@@ -119,3 +120,12 @@ module _ (t : List ℕ) (room : ℕ) where
         },
         r .1,
       )
+
+-- the coefficients of such a table
+pub table-coefficients : (t : List ℕ) → Passed t → Coefficients (modulusIn t) (basisIn t) (coefficientsIn t)
+unfolding coefficientsIn
+table-coefficients t p =
+    record {
+      count = length-tab (2 ^ (dimIn t - 3)) (λ i. twoAt t (coefficientsAt (dimIn t) + 2 * i)) ∙ ap (λ (k : ℕ). 2 ^ (k - 3)) (sym (length-basis t));
+      symbols = p .coefficients .symbols;
+    }
