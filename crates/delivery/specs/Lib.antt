@@ -3,3 +3,4 @@ pub mod Table
 pub mod Parts
 pub mod TableLaws
 pub mod Steps
+pub mod Delivered

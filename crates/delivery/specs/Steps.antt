@@ -31,7 +31,7 @@ use Rattle.stored.specs.WriterLaws.{range-answer}
 use Rattle.delivery.specs.Parts.{Coefficients}
 
 -- no call that passes its checks is refused
-not-refused : {n : ℕ} (cs : Checks) → Passes cs → Refuses cs n → ⊥
+pub not-refused : {n : ℕ} (cs : Checks) → Passes cs → Refuses cs n → ⊥
 not-refused cs p (l, a) = let z = answers-one cs a p in omega arith
 
 module _ (m : ℕ) (bs : List ℕ) (s : Sound m bs) where

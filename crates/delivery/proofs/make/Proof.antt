@@ -6,9 +6,9 @@ use native.Mathlib.Omega.{arith}
 use lib.ListN.{length, take, drop}
 use lib.Seq.{length-take-le}
 use Rattle.lists.specs.Answers.{Answers, Passes}
-use Rattle.stored.specs.File.{fileEnd, dimIn}
+use Rattle.stored.specs.File.{fileOf, fileEnd, modulusIn, dimIn, basisIn}
 use Rattle.delivery.specs.Parts.{Passed}
-use Rattle.delivery.specs.Table.{tableChecks}
+use Rattle.delivery.specs.Table.{wordFrom, tableChecks}
 use Rattle.delivery.specs.TableLaws.{table-passed}
 use borrow.Author.Needs.{needs}
 use Rattle.delivery.proofs.make.Statement.{statement}
@@ -79,7 +79,11 @@ returns-2 : tie.Need-returns-2
 returns-2 c =
     let h = c .before .before .before .before in
     let w = c .before .before .write-file .ensures in
-    (passes (here h), h .file-end .ensures, (w .0, w .1, ap (λ (file : List ℕ). file ++ drop (end h) (old (here h))) (w .2)))
+    let bytes = t (here h) in (
+      passes (here h),
+      h .file-end .ensures,
+      (w .0, w .1, ap (λ (file : List ℕ). file ++ drop (end h) (old (here h))) {y = fileOf (modulusIn bytes) (basisIn bytes) (wordFrom bytes) (w .0)} (w .2)),
+    )
 
 pub make-spec : {M : Type 1} → statement M
 make-spec =
