@@ -1,0 +1,61 @@
+-- What is delivered: the outcome is determined, and the stored file is accepted and gives back what it was made of. Assumes nothing.
+use mathlib.Core.Path.{_≡_, sym, ap, ap₂, _∙_, subst}
+use mathlib.Core.List.{List, _++_}
+use Prim.Native.Nat.{ℕ, _≤_}
+use native.Mathlib.Omega.{arith}
+use lib.ListN.{length, take, drop}
+use lib.Seq.{take-at}
+use Rattle.lists.specs.Answers.{Checks, Passes, answers-one}
+use Rattle.space.specs.Sound.{Sound}
+use Rattle.stored.specs.File.{fileOf, fileEnd, modulusIn, dimIn, basisIn}
+use Rattle.stored.specs.Passed.{length-basis}
+use Rattle.stored.specs.Reader.{fileChecks}
+use Rattle.stored.specs.Whole.{Delivery, Gives}
+use Rattle.stored.specs.Written.{length-file, file-accepted, file-gives}
+use Rattle.prover.specs.Calls.{ProofOf}
+use Rattle.prover.specs.Determined.{one-proof}
+use Rattle.delivery.specs.Steps.{not-refused, delivery}
+use Rattle.delivery.specs.Table.{wordFrom, tableChecks, Told}
+use Rattle.delivery.specs.TableLaws.{table-passed}
+use Rattle.delivery.specs.declared.Made.{Made}
+use Rattle.delivery.specs.declared.Made.the-variants.{Written, Refused}
+
+module _ (t old : List ℕ) where
+  abbrev checks : Checks
+  checks = tableChecks t (length old)
+
+  table-sound : Passes checks → Sound (modulusIn t) (basisIn t)
+  table-sound p = table-passed t (length old) p .0 .setting .sound
+
+  -- the bytes written fit
+  pub written-fits : (new : List ℕ) (n : ℕ) → Told t old new (Written n) → n ≤ length old
+  written-fits new n (p, e, f) = omega (arith, table-passed t (length old) p .1)
+
+  -- two answers to one call are the same, and leave the same output
+  pub one-delivery : (new new′ : List ℕ) (r r′ : Made) → Told t old new r → Told t old new′ r′ → (r ≡ r′) × (new ≡ new′)
+  one-delivery new new′ (Written n) (Written n′) (p, e, (π, P, f)) (p′, e′, (ρ, R, f′)) =
+      let same : n ≡ n′ = e ∙ sym e′ in
+      let one : π ≡ ρ = one-proof (table-sound p) (wordFrom t) π ρ P R in
+      (ap Written same, f ∙ ap₂ (λ (proof : List ℕ) (j : ℕ). fileOf (modulusIn t) (basisIn t) (wordFrom t) proof ++ drop j old) one same ∙ sym f′)
+  one-delivery new new′ (Written n) (Refused n′) (p, e, f) (q, b) = absurd (not-refused checks p q)
+  one-delivery new new′ (Refused n) (Written n′) (q, b) (p, e, f) = absurd (not-refused checks p q)
+  one-delivery new new′ (Refused n) (Refused n′) (q, b) (q′, b′) = (ap Refused (answers-one checks (q .1) (q′ .1)), b ∙ sym b′)
+
+  -- the bytes written are accepted by the reader of stored files, and give back modulus, basis, word and proof
+  pub made-accepted : (new : List ℕ) (n : ℕ) → Told t old new (Written n)
+      → (π : List ℕ) × ProofOf (modulusIn t) (basisIn t) (wordFrom t) π × Passes (fileChecks (take n new)) × Gives (take n new) (modulusIn t) (basisIn t) (wordFrom t) π
+  made-accepted new n (p, e, (π, P, f)) = (
+    π,
+    P,
+    subst (λ (l : List ℕ). Passes (fileChecks l)) (sym front) (file-accepted (modulusIn t) (basisIn t) (wordFrom t) π d),
+    subst (λ (l : List ℕ). Gives l (modulusIn t) (basisIn t) (wordFrom t) π) (sym front) (file-gives (modulusIn t) (basisIn t) (wordFrom t) π d),
+  )
+    where
+      d : Delivery (modulusIn t) (basisIn t) (wordFrom t) π
+      d = delivery (modulusIn t) (basisIn t) (table-sound p) (wordFrom t) π P
+
+      front : take n new ≡ fileOf (modulusIn t) (basisIn t) (wordFrom t) π
+      front =
+          ap (take n) f
+          ∙ take-at (fileOf (modulusIn t) (basisIn t) (wordFrom t) π) (drop n old) n
+          (length-file (modulusIn t) (basisIn t) (wordFrom t) π d ∙ ap fileEnd (length-basis t) ∙ sym e)

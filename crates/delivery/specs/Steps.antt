@@ -1,0 +1,117 @@
+-- Past the checks of a table no call on the way is refused: encoder, prover and writer do what they say. Assumes nothing.
+use mathlib.Core.Path.{_≡_, refl, sym, ap, _∙_}
+use mathlib.Core.Logic.{_⊎_, inl, inr}
+use mathlib.Core.List.{List, _++_}
+use Prim.Native.Nat.{ℕ, _*_, _^_, _≤_, _<_}
+use native.Mathlib.Omega.{arith}
+use lib.ListN.{length}
+use Rattle.lists.specs.All.{All}
+use Rattle.lists.specs.Answers.{Checks, Passes, Refuses, answers-one, answers-after}
+use Rattle.lists.specs.Tables.{length-tab}
+use Rattle.field.specs.Laws.{IsField}
+use Rattle.field.specs.Symbols.{symbols}
+use Rattle.poly.specs.Codeword.{wordOf, Codeword}
+use Rattle.poly.specs.Poly.{eval}
+use Rattle.poly.specs.Span.{elem}
+use Rattle.space.specs.Setting.{settingChecks}
+use Rattle.space.specs.Sound.{Sound, sound-field, sound-passes, setting-numbered}
+use Rattle.proximity.specs.Coverage.{all-symbols, all-coins-read}
+use Rattle.proximity.specs.Dim.{dim, S}
+use Rattle.proximity.specs.Layout.{length-proof}
+use Rattle.codec.specs.Calls.{symbolChecks, wordChecks, encodeChecks, Encoded}
+use Rattle.codec.specs.Checks.{earlyChecks, early-numbered}
+use Rattle.codec.specs.RoundTrip.{word-passes}
+use Rattle.codec.specs.declared.Outcome.{Outcome}
+use Rattle.codec.specs.declared.Outcome.the-variants.{Done, Refused}
+use Rattle.prover.specs.Calls.{proveChecks, ProofOf, Proven}
+use Rattle.stored.specs.File.{fileOf, fileEnd}
+use Rattle.stored.specs.Whole.{Delivery}
+use Rattle.stored.specs.Writer.{writerChecks, Wrote}
+use Rattle.stored.specs.WriterLaws.{range-answer}
+use Rattle.delivery.specs.Parts.{Coefficients}
+
+-- no call that passes its checks is refused
+pub not-refused : {n : ℕ} (cs : Checks) → Passes cs → Refuses cs n → ⊥
+not-refused cs p (l, a) = let z = answers-one cs a p in omega arith
+
+module _ (m : ℕ) (bs : List ℕ) (s : Sound m bs) where
+  abbrev k : ℕ
+  k = length bs
+
+  pub length-word : (xs w : List ℕ) → w ≡ wordOf (symbols m) k bs xs → length w ≡ 2 ^ k
+  length-word xs w e = ap length e ∙ length-tab (2 ^ k) (λ i. eval (symbols m) xs (elem (symbols m) bs i))
+
+  -- ---- the encoder
+
+  pub encoded : (xs old new scratch left : List ℕ) (r : Outcome) → Coefficients m bs xs → length old ≡ 2 ^ k → 4 * 2 ^ k ≤ length scratch
+      → Encoded m bs xs old new scratch left r → new ≡ wordOf (symbols m) k bs xs
+  encoded xs old new scratch left r c lo ls = by r
+    where
+      fine : Passes (encodeChecks m bs xs (length old) (length scratch))
+      fine =
+          answers-after (earlyChecks m bs (length xs) (length old) (length scratch)) (symbolChecks m xs) 0 (early-numbered m bs (length xs) (length old) (length scratch))
+          (answers-after (settingChecks m bs) (Rattle.codec.specs.Calls.lengthChecks k (length xs) (length old) (length scratch)) 0 (setting-numbered m bs) (sound-passes m bs s)
+          (Rattle.codec.specs.Checks.lengths-right k (length xs) (length old) (length scratch) (c .count) lo ls))
+          (inr ((λ f. f (c .symbols)), refl))
+
+      by : (r : Outcome) → Encoded m bs xs old new scratch left r → new ≡ wordOf (symbols m) k bs xs
+      by Done e = e .right
+      by (Refused n) e = absurd (not-refused (encodeChecks m bs xs (length old) (length scratch)) fine (e .refuses))
+
+  -- ---- the prover
+
+  pub proven : (w old new scratch left : List ℕ) (r : Outcome) → Codeword (symbols m) k bs w → length old ≡ S k → 4 * 2 ^ k ≤ length scratch
+      → Proven m bs w old new scratch left r → ProofOf m bs w new
+  proven w old new scratch left r (P, lp, sp, e) lo ls = by r
+    where
+      fine : Passes (proveChecks m bs w (length old) (length scratch))
+      fine =
+          answers-after (settingChecks m bs ++ Rattle.prover.specs.Calls.lengthChecks k (length w) (length old) (length scratch)) (wordChecks m bs w) 0
+          (Rattle.prover.proofs.CallLaws.early-numbered m bs (length w) (length old) (length scratch))
+          (answers-after (settingChecks m bs) (Rattle.prover.specs.Calls.lengthChecks k (length w) (length old) (length scratch)) 0 (setting-numbered m bs) (sound-passes m bs s)
+          (Rattle.prover.proofs.CallLaws.lengths-right k (length w) (length old) (length scratch) (length-word P w e) lo ls))
+          (word-passes m bs s P w lp sp e)
+
+      by : (r : Outcome) → Proven m bs w old new scratch left r → ProofOf m bs w new
+      by Done t = t .right
+      by (Refused n) t = absurd (not-refused (proveChecks m bs w (length old) (length scratch)) fine (t .refuses))
+
+  -- ---- the writer
+
+  -- a word and its proof are a delivery
+  pub delivery : (w π : List ℕ) → ProofOf m bs w π → Delivery m bs w π
+  delivery w π (P, H) =
+      record { setting = s; word = lw; proof = lπ; word-symbols = both .0; proof-symbols = both .1 }
+    where
+      F : IsField (symbols m)
+      F = sound-field s
+
+      lw : length w ≡ 2 ^ k
+      lw = length-word P w (H .word)
+
+      lπ : length π ≡ S k
+      lπ = ap length (H .proof) ∙ length-proof (symbols m) k bs P
+
+      both : All (symbols m .Sym) w × All (symbols m .Sym) π
+      both =
+          all-symbols (symbols m .Sym) (dim k) w π lw lπ
+          (λ coin h. all-coins-read F (dim k) bs w π (s .basis) lw lπ .1 (P, H) coin h .0)
+
+  pub written : (w π old new : List ℕ) (r : Rattle.stored.specs.declared.Outcome.Outcome) → ProofOf m bs w π → length old ≡ fileEnd k
+      → Wrote m bs w π old new r → new ≡ fileOf m bs w π
+  written w π old new r p lo = by r
+    where
+      d : Delivery m bs w π
+      d = delivery w π p
+
+      right : (length w ≡ 2 ^ k → ⊥) ⊎ ((length π ≡ S k → ⊥) ⊎ (length old ≡ fileEnd k → ⊥)) → ⊥
+      right (inl f) = f (d .word)
+      right (inr (inl f)) = f (d .proof)
+      right (inr (inr f)) = f lo
+
+      fine : Passes (writerChecks m bs w π (length old))
+      fine = range-answer m bs w π (length old) (sound-passes m bs s) (inr (right, refl)) 0 (inr ((λ f. f (d .word-symbols, d .proof-symbols)), refl))
+
+      by : (r : Rattle.stored.specs.declared.Outcome.Outcome) → Wrote m bs w π old new r → new ≡ fileOf m bs w π
+      by Rattle.stored.specs.declared.Outcome.the-variants.Written t = t .1
+      by (Rattle.stored.specs.declared.Outcome.the-variants.Refused n) t = absurd (not-refused (writerChecks m bs w π (length old)) fine (t .0))

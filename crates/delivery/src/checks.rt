@@ -1,0 +1,73 @@
+// The checks of a table file, front to back.
+use codec::convert::power;
+use field::Field;
+use proximity::tables;
+use stored::records;
+ghost use mathlib.Core.Path.{_≡_};
+ghost use Prim.Native.Nat.{_≤_};
+ghost use lib.ListN.{length};
+ghost use Rattle.lists.specs.Answers.{Answers};
+ghost use Rattle.field.specs.Binary.{degree};
+ghost use Rattle.field.specs.Products.{Sized};
+ghost use Rattle.space.specs.Setting.{maxDim};
+ghost use Rattle.stored.specs.File.{fileEnd};
+ghost use Rattle.delivery.specs.Table.{coefficientRecordAt, roomChecks, coefficientChecks, tableChecks};
+
+// How many bytes a stored file of dimension k has.
+pub fn file_end(k: usize) -> usize
+    requires { ⌜ k ≤ maxDim ⌝ }
+    ensures { λ r. ⌜ r ≡ fileEnd k ⌝ }
+{
+    let n = power(k);
+    19 + 2 * k + 2 * n + 2 * tables::proof_length(k)
+}
+
+// Check 6.
+fn room_refusal(k: usize, room: usize) -> u8
+    requires { ⌜ k ≤ maxDim ⌝ }
+    ensures { λ r. ⌜ Answers (roomChecks k room) r ⌝ }
+{
+    let end = file_end(k);
+    if 40000 < end {
+        return 6;
+    }
+    if room < end {
+        return 6;
+    }
+    0
+}
+
+// The checks of the coefficient record, then 12 where bytes follow it.
+fn coefficient_refusal(f: Field, table: &[u8], k: usize) -> u8
+    requires { ⌜ Sized f × (3 ≤ k) × (k ≤ maxDim) × (coefficientRecordAt k ≤ length (now table)) ⌝ }
+    ensures { λ r. ⌜ Answers (coefficientChecks (now (table .entry)) k (degree (f .modulus))) r ⌝ }
+{
+    let n = power(k - 3);
+    let at = 7 + 2 * k;
+    let early = records::record_refusal(f, table, at, 0x43, 0x4F, n);
+    if early != 0 {
+        return early;
+    }
+    if at + 6 + 2 * n < table.len() {
+        return 12;
+    }
+    0
+}
+
+// The number of the first check that refuses the table, with room bytes for the stored file.
+pub fn refusal(table: &[u8], room: usize) -> u8
+    ensures { λ r. ⌜ Answers (tableChecks (now (table .entry)) room) r ⌝ }
+{
+    let c = records::setting_of(table);
+    let early = c.refusal;
+    let setting = c.setting;
+    if early != 0 {
+        return early;
+    }
+    let k = setting.space.k;
+    let six = room_refusal(k, room);
+    if six != 0 {
+        return six;
+    }
+    coefficient_refusal(setting.field, table, k)
+}

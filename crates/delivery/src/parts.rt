@@ -1,0 +1,103 @@
+// The word, the proof and the stored file, of a table that passed its checks.
+use codec::convert::power;
+use proximity::tables;
+use stored::bytes;
+ghost use mathlib.Core.Path.{_≡_};
+ghost use mathlib.Core.List.{List};
+ghost use Prim.Native.Nat.{ℕ, _+_, _*_, _-_, _^_, _≤_};
+ghost use lib.ListN.{length, take};
+ghost use Rattle.field.specs.Symbols.{symbols};
+ghost use Rattle.poly.specs.Codeword.{wordOf, Codeword};
+ghost use Rattle.proximity.specs.Dim.{S};
+ghost use Rattle.prover.specs.Calls.{ProofOf};
+ghost use Rattle.stored.specs.Bytes.{numbersAt};
+ghost use Rattle.stored.specs.File.{fileEnd, dimIn, modulusIn, basisIn};
+ghost use Rattle.delivery.specs.Table.{coefficientsIn};
+ghost use Rattle.delivery.specs.Parts.{Small, Coefficients, Passed, StoredFile};
+
+fn no_numbers() -> [u16; 32]
+    ensures { λ r. ⌜ length r ≡ 32 ⌝ }
+{
+    [0u16; 32]
+}
+
+fn no_word() -> [u16; 256]
+    ensures { λ r. ⌜ length r ≡ 256 ⌝ }
+{
+    [0u16; 256]
+}
+
+fn no_proof() -> [u16; 16128]
+    ensures { λ r. ⌜ length r ≡ 16128 ⌝ }
+{
+    [0u16; 16128]
+}
+
+fn no_scratch() -> [u16; 1024]
+    ensures { λ r. ⌜ length r ≡ 1024 ⌝ }
+{
+    [0u16; 1024]
+}
+
+// The first count two-byte numbers from index at on.
+fn numbers_at(table: &[u8], at: usize, count: usize) -> [u16; 32]
+    requires { ⌜ (count ≤ 32) × (at + 2 * count ≤ length (now table)) ⌝ }
+    ensures { λ r. ⌜ (length r ≡ 32) × (take count r ≡ numbersAt (now (table .entry)) at count) ⌝ }
+{
+    let mut out = no_numbers();
+    let mut i = 0;
+    while i < count {
+        out[i] = bytes::two_at(table, at + 2 * i);
+        i += 1;
+    }
+    out
+}
+
+// The word of the coefficients, in the first 2^k places.
+fn word_of(modulus: u32, basis: &[u16], coefficients: &[u16]) -> [u16; 256]
+    requires { ⌜ Small modulus (now basis) × Coefficients modulus (now basis) (now coefficients) ⌝ }
+    ensures { λ r. ⌜ (length r ≡ 256) × (take (2 ^ length (now (basis .entry))) r ≡ wordOf (symbols modulus) (length (now (basis .entry))) (now (basis .entry)) (now (coefficients .entry))) ⌝ }
+{
+    let n = power(basis.len());
+    let mut word = no_word();
+    let mut scratch = no_scratch();
+    codec::encode(modulus, basis, coefficients, &mut word[..n], &mut scratch);
+    word
+}
+
+// The proof of a codeword, in the first S(k) places.
+fn proof_of(modulus: u32, basis: &[u16], word: &[u16]) -> [u16; 16128]
+    requires { ⌜ Small modulus (now basis) × Codeword (symbols modulus) (length (now basis)) (now basis) (now word) ⌝ }
+    ensures { λ r. ⌜ (length r ≡ 16128) × ProofOf modulus (now (basis .entry)) (now (word .entry)) (take (S (length (now (basis .entry)))) r) ⌝ }
+{
+    let s = tables::proof_length(basis.len());
+    let mut proof = no_proof();
+    let mut scratch = no_scratch();
+    prover::prove(modulus, basis, word, &mut proof[..s], &mut scratch);
+    proof
+}
+
+// The stored file of the coefficients' word and its proof.
+fn write_coefficients(modulus: u32, basis: &[u16], coefficients: &[u16], out: &mut [u8])
+    requires { ⌜ Small modulus (now basis) × Coefficients modulus (now basis) (now coefficients) × (length (now out) ≡ fileEnd (length (now basis))) ⌝ }
+    ensures { λ _. ⌜ StoredFile modulus (now (basis .entry)) (now (coefficients .entry)) (now (out .exit)) ⌝ }
+{
+    let k = basis.len();
+    let n = power(k);
+    let s = tables::proof_length(k);
+    let word = word_of(modulus, basis, coefficients);
+    let proof = proof_of(modulus, basis, &word[..n]);
+    stored::write(modulus, basis, &word[..n], &proof[..s], out);
+}
+
+// The stored file of a table of dimension k that passed its checks.
+pub fn write_file(table: &[u8], k: usize, out: &mut [u8])
+    requires { ⌜ Passed (now table) × (k ≡ dimIn (now table)) × (length (now out) ≡ fileEnd (dimIn (now table))) ⌝ }
+    ensures { λ _. ⌜ StoredFile (modulusIn (now (table .entry))) (basisIn (now (table .entry))) (coefficientsIn (now (table .entry))) (now (out .exit)) ⌝ }
+{
+    let n = power(k - 3);
+    let modulus = bytes::four_at(table, 2);
+    let basis = numbers_at(table, 7, k);
+    let coefficients = numbers_at(table, 13 + 2 * k, n);
+    write_coefficients(modulus, &basis[..k], &coefficients[..n], out);
+}

@@ -1,0 +1,36 @@
+// Makes a delivery: reads a table file on standard input and writes its stored file on standard
+// output, or the number that refuses it. An input longer than the buffer goes past every table, so
+// it gets the number of its first 4096 bytes.
+use delivery::Made;
+use libc::STDIN_FILENO;
+use libc::STDOUT_FILENO;
+ghost use mathlib.Core.Path.{_≡_};
+ghost use lib.ListN.{length};
+
+fn room() -> [u8; 40000]
+    ensures { λ r. ⌜ 40000 ≡ length r ⌝ }
+{
+    [0; 40000]
+}
+
+fn refused(number: u8) {
+    io::write_all(STDOUT_FILENO, b"refused ");
+    io::print_decimal(STDOUT_FILENO, number as u64);
+    io::write_all(STDOUT_FILENO, b"\n");
+}
+
+fn deliver(table: &[u8]) {
+    let mut out = room();
+    match delivery::make(table, &mut out) {
+        Made::Written(n) => {
+            io::write_all(STDOUT_FILENO, &out[..n]);
+        }
+        Made::Refused(number) => refused(number),
+    }
+}
+
+fn main() {
+    let mut table = io::buffer();
+    let n = io::read_full(STDIN_FILENO, &mut table);
+    deliver(&table[..n]);
+}
