@@ -1,3 +1,4 @@
 -- Answers as numbers.
 pub mod Codes
 pub mod Lists
+pub mod Files
