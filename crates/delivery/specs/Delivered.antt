@@ -7,7 +7,7 @@ use lib.ListN.{length, take, drop}
 use lib.Seq.{take-at}
 use Rattle.lists.specs.Answers.{Checks, Passes, answers-one}
 use Rattle.space.specs.Sound.{Sound}
-use Rattle.stored.specs.File.{fileOf, fileEnd, modulusIn, dimIn, basisIn}
+use Rattle.stored.specs.File.{fileOf, fileEnd, modulusIn, basisIn}
 use Rattle.stored.specs.Passed.{length-basis}
 use Rattle.stored.specs.Reader.{fileChecks}
 use Rattle.stored.specs.Whole.{Delivery, Gives}

@@ -1,7 +1,7 @@
 // A delivery from end to end: a table file of a setting and coefficients becomes the stored file of
 // their word and its proof.
-pub mod checks;
-pub mod parts;
+mod checks;
+mod parts;
 
 ghost use Rattle.delivery.specs.Table.{Told};
 

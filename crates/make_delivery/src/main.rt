@@ -1,6 +1,6 @@
 // Makes a delivery: reads a table file on standard input and writes its stored file on standard
-// output, or the number that refuses it. An input longer than the buffer goes past every table, so
-// it gets the number of its first 4096 bytes.
+// output, or the number that refuses it. No table has 4096 bytes, so an input that goes past the
+// buffer gets the number that all of it would get.
 use delivery::Made;
 use libc::STDIN_FILENO;
 use libc::STDOUT_FILENO;

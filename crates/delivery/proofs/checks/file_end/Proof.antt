@@ -1,5 +1,5 @@
 -- `delivery::checks::file_end` meets its contract. Assumes nothing.
-use Prim.Native.Nat.{ℕ, _≤_, _<_}
+use Prim.Native.Nat.{_≤_, _<_}
 use native.Mathlib.Omega.{arith}
 use Rattle.proximity.specs.LineLaws.{S-small}
 use Rattle.delivery.proofs.Laws.{at-most}

@@ -7,7 +7,6 @@ use lib.ListN.{length, take}
 use lib.Seq.{length-take-le}
 use Rattle.field.specs.Symbols.{symbols}
 use Rattle.poly.specs.Codeword.{wordOf}
-use Rattle.proximity.specs.Dim.{S}
 use Rattle.prover.specs.Calls.{ProofOf}
 use Rattle.stored.specs.File.{fileOf}
 use Rattle.delivery.specs.Steps.{written}
