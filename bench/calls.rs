@@ -9,7 +9,7 @@ mod raw {
         pub fn proximity_encode(modulus: u32, basis: *const u16, n: usize, p: *const u16, np: usize, word: *mut u16, w: usize, scratch: *mut u16, s: usize) -> u32;
         pub fn proximity_decode(modulus: u32, basis: *const u16, n: usize, word: *const u16, w: usize, p: *mut u16, np: usize, scratch: *mut u16, s: usize) -> u32;
         pub fn proximity_prove(modulus: u32, basis: *const u16, n: usize, word: *const u16, w: usize, proof: *mut u16, p: usize, scratch: *mut u16, s: usize) -> u32;
-        pub fn proximity_count(file: *const u8, n: usize, counts: *mut u64, c: usize) -> u32;
+        pub fn proximity_total(file: *const u8, n: usize, which: u32) -> u64;
         pub fn proximity_check_file(file: *const u8, n: usize, coin: u64, reads: *mut u32) -> u32;
     }
 }
@@ -47,9 +47,9 @@ pub fn prove(m: u32, b: &[u16], w: &[u16], p: &mut [u16], s: &mut [u16]) -> u32 
     unsafe { raw::proximity_prove(m, b.as_ptr(), b.len(), w.as_ptr(), w.len(), p.as_mut_ptr(), p.len(), s.as_mut_ptr(), s.len()) }
 }
 
-/// The five numbers of the coin counter.
-pub fn count(file: &[u8], counts: &mut [u64]) -> u32 {
-    unsafe { raw::proximity_count(file.as_ptr(), file.len(), counts.as_mut_ptr(), counts.len()) }
+/// A total of the coin counter by its number: the refusal, then its five lines.
+pub fn total(file: &[u8], which: u32) -> u64 {
+    unsafe { raw::proximity_total(file.as_ptr(), file.len(), which) }
 }
 
 /// The host kit's call.

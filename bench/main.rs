@@ -112,9 +112,8 @@ fn stored(f: &plain::Field, basis: &[u16]) {
         plain::prove(f, &space, &w, &mut pi);
         let bytes = file::bytes_of(MODULUS, b, &w, &pi);
         if k == 8 {
-            let mut counts = [0; 5];
-            let proved = time(|_| assert_eq!(calls::count(&bytes, &mut counts), 0));
-            assert_eq!(counts, [8, 2048, 0, 64, 0]);
+            assert_eq!((1..6).map(|i| calls::total(&bytes, i)).collect::<Vec<_>>(), [8, 2048, 0, 64, 0]);
+            let proved = time(|_| assert_eq!(calls::total(&bytes, 3), 0));
             let fast = time(|_| assert!((0..2048).all(|c| plain::check(f, &space, &w, &pi, c))));
             println!("\nall 2048 coins of a stored file at k = 8: proved {:.3} ms, log tables {:.3} ms", proved / 1e6, fast / 1e6);
         } else {

@@ -6,7 +6,7 @@ extern "C" {
     fn proximity_coin_bits(file: *const u8, n: usize) -> u32;
     fn proximity_check_file(file: *const u8, n: usize, coin: u64, reads: *mut u32) -> u32;
     fn proximity_write(modulus: u32, basis: *const u16, n: usize, word: *const u16, w: usize, proof: *const u16, p: usize, out: *mut u8, o: usize) -> u32;
-    fn proximity_count(file: *const u8, n: usize, counts: *mut u64, c: usize) -> u32;
+    fn proximity_total(file: *const u8, n: usize, which: u32) -> u64;
     fn proximity_make(table: *const u8, n: usize, out: *mut u8, o: usize) -> u32;
 }
 
@@ -158,11 +158,10 @@ fn counts(t: &mut Tally) {
             6 => f.resize(39999 + d.below(3) as usize, 0),
             _ => {}
         }
-        let mut got = [9u64; 5];
-        let number = unsafe { proximity_count(f.as_ptr(), f.len(), got.as_mut_ptr(), 5) };
+        let got: Vec<u64> = (0..6).map(|i| unsafe { proximity_total(f.as_ptr(), f.len(), i) }).collect();
         let right = file::count(&f);
         rejects += right.map_or(0, |r| r[2]);
-        wrong += u64::from(number != right.err().unwrap_or(0) || got != right.unwrap_or([9; 5]));
+        wrong += u64::from(got[0] != right.err().unwrap_or(0) as u64 || got[1..] != right.unwrap_or([0; 5]));
         cases += 1;
     }
     println!("rejecting coins counted: {rejects}");

@@ -1,4 +1,6 @@
 //! Compares the proved library with an independent model on fixed pseudo-random and damaged inputs.
+mod file;
+mod files;
 mod model;
 
 extern "C" {
@@ -321,6 +323,7 @@ fn main() {
     prover(&mut t);
     bench_cases(&mut t);
     verdicts(&mut t);
+    files::all(&mut t);
     println!("{} passed, {} failed", t.passed, t.failed);
     std::process::exit(i32::from(t.failed != 0));
 }

@@ -1,8 +1,5 @@
 -- Answers of the calls on stored files as numbers.
-use mathlib.Core.Path.{_≡_}
-use mathlib.Core.List.{List, [], _∷_}
-use Prim.Native.Nat.{ℕ, _+_, _%_}
-use lib.ListN.{length}
+use Prim.Native.Nat.{ℕ, zero, suc, _+_, _%_}
 use Rattle.coins.specs.declared.Counts.{Counts}
 use Rattle.delivery.specs.declared.Made.{Made}
 use Rattle.delivery.specs.declared.Made.the-variants as made
@@ -19,8 +16,11 @@ abbrev pub madeCode : Made → ℕ
 madeCode (made.Written n) = n % 65536
 madeCode (made.Refused n) = 65536 + n
 
--- the totals in a list of five numbers; 6 for a list of another length, which is left as it came, as it is where the file is refused
-pub record Shown (c : Counts) (old new : List ℕ) (r : ℕ) : Type 0 where
-  pub other : (length old ≡ 5 → ⊥) → (r ≡ 6) × (new ≡ old)
-  pub refused : length old ≡ 5 → (c .refusal ≡ 0 → ⊥) → (r ≡ c .refusal) × (new ≡ old)
-  pub shown : length old ≡ 5 → c .refusal ≡ 0 → (r ≡ 0) × (new ≡ c .k ∷ c .coins ∷ c .rejects ∷ c .most ∷ c .off ∷ [])
+-- a total by its number: the refusal, then k, the coins, the rejects, the most reads and off
+abbrev pub totalOf : Counts → ℕ → ℕ
+totalOf c zero = c .refusal
+totalOf c (suc zero) = c .k
+totalOf c (suc (suc zero)) = c .coins
+totalOf c (suc (suc (suc zero))) = c .rejects
+totalOf c (suc (suc (suc (suc zero)))) = c .most
+totalOf c (suc (suc (suc (suc (suc n))))) = c .off

@@ -4,9 +4,9 @@ use delivery::Made;
 use stored::Outcome;
 ghost use mathlib.Core.Path.{_≡_};
 ghost use Rattle.coins.specs.Totals as totals;
-ghost use Rattle.delivery.specs.Table as table;
+ghost use Rattle.delivery.specs.Table as making;
 ghost use Rattle.stored.specs.Writer.{Wrote};
-ghost use Rattle.exports.specs.Files.{writtenCode, madeCode, Shown};
+ghost use Rattle.exports.specs.Files.{writtenCode, madeCode, totalOf};
 
 fn written_code(o: Outcome) -> u32
     ensures { λ r. ⌜ r ≡ writtenCode o ⌝ }
@@ -41,36 +41,32 @@ pub extern "C" fn proximity_write(
 
 #[no_mangle]
 pub extern "C" fn proximity_make(table: &[u8], out: &mut [u8]) -> u32
-    ensures { λ r. ⌜ ((m : Made) × table.Told (now (table .entry)) (now (out .entry)) (now (out .exit)) m × (r ≡ madeCode m)) ⌝ }
+    ensures { λ r. ⌜ ((m : Made) × making.Told (now (table .entry)) (now (out .entry)) (now (out .exit)) m × (r ≡ madeCode m)) ⌝ }
 {
     made_code(delivery::make(table, out))
 }
 
-// The five totals into a list of five numbers.
-fn show(c: Counts, counts: &mut [u64]) -> u32
-    ensures { λ r. ⌜ Shown c (now (counts .entry)) (now (counts .exit)) r ⌝ }
+// A total by its number: the refusal, then the five lines of the counter.
+fn total(c: Counts, which: u32) -> u64
+    ensures { λ r. ⌜ r ≡ totalOf c which ⌝ }
 {
-    let number = c.refusal;
+    let refusal = c.refusal;
     let k = c.k;
     let most = c.most;
     let off = c.off;
-    if counts.len() != 5 {
-        return 6;
+    match which {
+        0 => refusal as u64,
+        1 => k as u64,
+        2 => c.coins,
+        3 => c.rejects,
+        4 => most as u64,
+        _ => off as u64,
     }
-    if number != 0 {
-        return number as u32;
-    }
-    counts[0] = k as u64;
-    counts[1] = c.coins;
-    counts[2] = c.rejects;
-    counts[3] = most as u64;
-    counts[4] = off as u64;
-    0
 }
 
 #[no_mangle]
-pub extern "C" fn proximity_count(file: &[u8], counts: &mut [u64]) -> u32
-    ensures { λ r. ⌜ ((c : Counts) × totals.Told (now (file .entry)) c × Shown c (now (counts .entry)) (now (counts .exit)) r) ⌝ }
+pub extern "C" fn proximity_total(file: &[u8], which: u32) -> u64
+    ensures { λ r. ⌜ ((c : Counts) × totals.Told (now (file .entry)) c × (r ≡ totalOf c which)) ⌝ }
 {
-    show(coins::count(file), counts)
+    total(coins::count(file), which)
 }
