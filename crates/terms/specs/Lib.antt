@@ -5,3 +5,4 @@ pub mod Cases
 pub mod Agreement
 pub mod Terms
 pub mod Files
+pub mod Counts

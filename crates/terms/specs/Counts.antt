@@ -1,0 +1,48 @@
+-- The printed sentences for the coin counter. `Told f c` is the contract of coins' `count` for its answer c on the file f.
+use mathlib.Core.Path.{_≡_, refl}
+use mathlib.Core.Logic.{_↔_, inl, inr}
+use mathlib.Core.List.{List}
+use Prim.Native.Nat.{ℕ}
+use native.Mathlib.Omega.{arith}
+use lib.ListN.{length}
+use Rattle.lists.specs.Answers.{Passes}
+use Rattle.field.specs.Symbols.{symbols}
+use Rattle.proximity.specs.Dim.{dim}
+use Rattle.proximity.specs.Proof.{Honest}
+use Rattle.proximity.specs.Verifier.{Accepts}
+use Rattle.verifier.specs.Checker.{readsOf}
+use Rattle.verifier.specs.declared.Verdict.the-variants.{Accept, Reject, Refused}
+use Rattle.stored.specs.CheckLaws.{coin-passes}
+use Rattle.stored.specs.File.{modulusIn, dimIn, basisIn, wordIn, proofIn}
+use Rattle.stored.specs.Reader.{fileChecks}
+use Rattle.coins.specs.Answer as answer
+use Rattle.coins.specs.Totals.{Totals, Told}
+use Rattle.coins.specs.declared.Counts.{Counts}
+use Rattle.host.specs.Answer.{HostAnswer}
+use Rattle.terms.specs.Files.{accepted-exactly-from-c}
+
+-- The counter has one answer.
+pub one-count : (f : List ℕ) (c d : Counts) → Told f c → Told f d → c ≡ d
+one-count = answer.one-count
+
+module _ (f : List ℕ) (c : Counts) where
+  accepted : Told f c → c .refusal ≡ 0 → Passes (fileChecks f) × Totals f c
+  accepted (inl (inl a, z, t)) e = absurd (omega arith)
+  accepted (inl (inr a, z, t)) e = (a .1, t)
+  accepted (inr ((l, a), g)) e = absurd (omega arith)
+
+  accepts : (coin reads : ℕ) → HostAnswer f coin 0 reads 0 → Accepts (symbols (modulusIn f)) (dim (dimIn f)) (basisIn f) (wordIn f) (proofIn f) coin
+  accepts coin reads (Accept n, (p, r, a), e, h) = a
+  accepts coin reads (Reject n, a, e, h) = absurd (omega arith)
+  accepts coin reads (Refused n, (l, a), e, h) = absurd (omega arith)
+
+  -- No coin of an accepted file rejects exactly where its word evaluates a polynomial of degree below an eighth of its length, and its proof
+  -- is the one laid out for it.
+  pub no-rejects-exactly : Told f c → c .refusal ≡ 0 → (c .rejects ≡ 0) ↔ ((P : List ℕ) × Honest (symbols (modulusIn f)) (dim (length (basisIn f))) (basisIn f) (wordIn f) (proofIn f) P)
+  no-rejects-exactly t z =
+      let (p, u) = accepted t z in
+      let none = answer.no-rejects f p (u .rejects) in
+      let exactly = accepted-exactly-from-c f p in (
+        (λ e. exactly .0 (λ coin h before. (readsOf (dimIn f) coin, (Accept (readsOf (dimIn f) coin), (coin-passes f coin p h, refl, none .0 e coin h), refl, refl)))),
+        λ H. none .1 (λ coin h. let (reads, a) = exactly .1 H coin h 0 in accepts coin reads a),
+      )
