@@ -100,13 +100,21 @@ module _ (f : List ℕ) where
             (positions (dim (dimIn f)) coin)
 
     -- no coin rejects exactly when every coin accepts
-    pub no-rejects : {c : ℕ} → Counted (Rejects f) (2 ^ R (dimIn f)) c
+    rejects-none : {c : ℕ} → Counted (Rejects f) (2 ^ R (dimIn f)) c
         → (c ≡ 0) ↔ ((coin : ℕ) → coin < 2 ^ R (dimIn f) → Accepts K (dim (dimIn f)) (basisIn f) (wordIn f) (proofIn f) coin)
-    no-rejects a =
+    rejects-none a =
         let none = counted-none (Rejects f) (2 ^ R (dimIn f)) a in (
           (λ z coin h. accepts-stable coin (λ n. none .0 z coin h (readsOf (dimIn f) coin, (coin-passes f coin p h, refl, n)))),
           λ g. none .1 (λ coin h (n, (q, e, s)). s (g coin h)),
         )
+
+-- ---- what the totals of an accepted file say
+
+-- rejects is 0 exactly when the verdict is accept at every coin
+pub no-rejects : (f : List ℕ) (r : Counts) → Told f r → r .refusal ≡ 0
+    → (r .rejects ≡ 0) ↔ ((coin : ℕ) → coin < 2 ^ R (dimIn f) → Accepts (symbols (modulusIn f)) (dim (dimIn f)) (basisIn f) (wordIn f) (proofIn f) coin)
+no-rejects f r (inl (p, y, t)) z = rejects-none f (passes-file f p) (t .rejects)
+no-rejects f r (inr ((l, a), e)) z = absurd (omega arith)
 
 -- ---- the answer is one
 
