@@ -16,7 +16,7 @@ use Rattle.stored.specs.CheckLaws.{coin-passes}
 use Rattle.stored.specs.File.{modulusIn, dimIn, basisIn, wordIn, proofIn}
 use Rattle.stored.specs.Reader.{fileChecks}
 use Rattle.coins.specs.Answer as answer
-use Rattle.coins.specs.Totals.{Totals, Told}
+use Rattle.coins.specs.Totals.{Told}
 use Rattle.coins.specs.declared.Counts.{Counts}
 use Rattle.host.specs.Answer.{HostAnswer}
 use Rattle.terms.specs.Files.{accepted-exactly-from-c}
@@ -26,10 +26,10 @@ pub one-count : (f : List ℕ) (c d : Counts) → Told f c → Told f d → c �
 one-count = answer.one-count
 
 module _ (f : List ℕ) (c : Counts) where
-  accepted : Told f c → c .refusal ≡ 0 → Passes (fileChecks f) × Totals f c
-  accepted (inl (inl a, z, t)) e = absurd (omega arith)
-  accepted (inl (inr a, z, t)) e = (a .1, t)
-  accepted (inr ((l, a), g)) e = absurd (omega arith)
+  file-accepted : Told f c → c .refusal ≡ 0 → Passes (fileChecks f)
+  file-accepted (inl (inl a, z, t)) e = absurd (omega arith)
+  file-accepted (inl (inr a, z, t)) e = a .1
+  file-accepted (inr ((l, a), g)) e = absurd (omega arith)
 
   accepts : (coin reads : ℕ) → HostAnswer f coin 0 reads 0 → Accepts (symbols (modulusIn f)) (dim (dimIn f)) (basisIn f) (wordIn f) (proofIn f) coin
   accepts coin reads (Accept n, (p, r, a), e, h) = a
@@ -40,8 +40,8 @@ module _ (f : List ℕ) (c : Counts) where
   -- is the one laid out for it.
   pub no-rejects-exactly : Told f c → c .refusal ≡ 0 → (c .rejects ≡ 0) ↔ ((P : List ℕ) × Honest (symbols (modulusIn f)) (dim (length (basisIn f))) (basisIn f) (wordIn f) (proofIn f) P)
   no-rejects-exactly t z =
-      let (p, u) = accepted t z in
-      let none = answer.no-rejects f p (u .rejects) in
+      let p = file-accepted t z in
+      let none = answer.no-rejects f c t z in
       let exactly = accepted-exactly-from-c f p in (
         (λ e. exactly .0 (λ coin h before. (readsOf (dimIn f) coin, (Accept (readsOf (dimIn f) coin), (coin-passes f coin p h, refl, none .0 e coin h), refl, refl)))),
         λ H. none .1 (λ coin h. let (reads, a) = exactly .1 H coin h 0 in accepts coin reads a),
