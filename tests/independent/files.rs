@@ -206,10 +206,29 @@ fn tables(t: &mut Tally) {
     t.group("files from coefficients", wrong, 800);
 }
 
+/// The counts beside the sample files are the model's.
+fn samples(t: &mut Tally) {
+    let (mut wrong, mut cases) = (0, 0);
+    for entry in std::fs::read_dir("samples").expect("the samples are there") {
+        let path = entry.expect("the samples can be listed").path();
+        if path.extension().is_some_and(|e| e == "stored") {
+            let read = |p: &std::path::Path| std::fs::read(p).expect("a sample can be read");
+            let right = match file::count(&read(&path)) {
+                Err(n) => format!("refused {n}\n"),
+                Ok([k, coins, rejects, most, off]) => format!("k {k}\ncoins {coins}\nrejects {rejects}\nreads-most {most}\noff {off}\n"),
+            };
+            wrong += u64::from(read(&path.with_extension("counts")) != right.as_bytes());
+            cases += 1;
+        }
+    }
+    t.group("counts of the samples", wrong, cases);
+}
+
 pub fn all(t: &mut Tally) {
     cuts(t);
     damaged(t);
     written(t);
     counts(t);
     tables(t);
+    samples(t);
 }
