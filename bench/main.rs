@@ -14,25 +14,36 @@ use std::hint::black_box;
 
 const MODULUS: u32 = 65581;
 
-/// Nanoseconds of processor time for one turn: the least of many runs of a millisecond or one turn.
+/// Microseconds of processor time for n turns.
+fn run(f: &mut dyn FnMut(u64), n: u64) -> i64 {
+    let start = calls::clock();
+    (0..n).for_each(f);
+    calls::clock() - start
+}
+
+/// Nanoseconds of processor time for one turn of each: the least of many runs of a millisecond or one turn, which take turns with each
+/// other so that all of them see the same machine.
+fn times<const N: usize>(mut fs: [&mut dyn FnMut(u64); N]) -> [f64; N] {
+    let (mut turns, mut least) = ([1; N], [i64::MAX; N]);
+    for (f, n) in fs.iter_mut().zip(&mut turns) {
+        while run(f, *n) < 1_000 {
+            *n *= 2;
+        }
+    }
+    let (mut spent, mut rounds) = (0, 0);
+    while rounds < 5 || (spent < 300_000 * N as i64 && rounds < 300) {
+        for i in 0..N {
+            let t = run(fs[i], turns[i]);
+            least[i] = least[i].min(t);
+            spent += t;
+        }
+        rounds += 1;
+    }
+    std::array::from_fn(|i| least[i] as f64 * 1000.0 / turns[i] as f64)
+}
+
 fn time(mut f: impl FnMut(u64)) -> f64 {
-    let mut run = |n: u64| {
-        let start = calls::clock();
-        (0..n).for_each(&mut f);
-        calls::clock() - start
-    };
-    let mut n = 1;
-    while run(n) < 1_000 {
-        n *= 2;
-    }
-    let (mut least, mut spent, mut turns) = (i64::MAX, 0, 0);
-    while turns < 5 || (spent < 300_000 && turns < 200) {
-        let t = run(n);
-        least = least.min(t);
-        spent += t;
-        turns += 1;
-    }
-    least as f64 * 1000.0 / n as f64
+    times([&mut f])[0]
 }
 
 fn coin_at(k: usize, i: u64) -> u64 {
@@ -80,22 +91,31 @@ fn dimension(f: &plain::Field, basis: &[u16]) -> [Row; 4] {
     let us = |ns: f64| ns / 1000.0;
     let row = |proved, plain, model: Option<f64>| Row { k, proved: us(proved), plain: us(plain), model: model.map(us) };
 
-    let proved = time(|_| assert_eq!(calls::encode(MODULUS, basis, &p, &mut w, &mut s), 0));
-    let fast = time(|_| assert_eq!(black_box(plain::encode(f, &space, &p)), w));
+    let [proved, fast] = times([
+        &mut |_| assert_eq!(calls::encode(MODULUS, basis, &p, &mut w, &mut s), 0),
+        &mut |_| drop(black_box(plain::encode(f, &space, &p))),
+    ]);
+    assert_eq!(plain::encode(f, &space, &p), w);
     let encode = row(proved, fast, (k <= 10).then(|| time(|_| assert_eq!(model::word_of(MODULUS, basis, &p), w))));
 
-    let proved = time(|_| assert_eq!(calls::decode(MODULUS, basis, &w, &mut q, &mut s), 0));
-    let fast = time(|_| assert_eq!(black_box(plain::decode(f, &space, &w)).as_ref(), Some(&p)));
+    let [proved, fast] = times([
+        &mut |_| assert_eq!(calls::decode(MODULUS, basis, &w, &mut q, &mut s), 0),
+        &mut |_| assert_eq!(plain::decode(f, &space, &w).as_ref(), Some(&p)),
+    ]);
     let decode = row(proved, fast, (k <= 8).then(|| time(|_| assert_eq!(model::through_first(MODULUS, basis, &w), p))));
 
-    let proved = time(|_| assert_eq!(calls::prove(MODULUS, basis, &w, &mut pi, &mut s), 0));
-    let fast = time(|_| plain::prove(f, &space, &w, &mut plain_pi));
+    let [proved, fast] = times([
+        &mut |_| assert_eq!(calls::prove(MODULUS, basis, &w, &mut pi, &mut s), 0),
+        &mut |_| plain::prove(f, &space, &w, &mut plain_pi),
+    ]);
     assert_eq!(pi, plain_pi);
     let prove = row(proved, fast, (k <= 9).then(|| time(|_| assert_eq!(model::proof_of(MODULUS, basis, &p), pi))));
 
-    let with_checks = time(|i| assert!(calls::check(MODULUS, basis, &w, &pi, coin_at(k, i)) <= 64));
-    let checks = time(|_| assert_eq!(calls::setting(MODULUS, basis), 0));
-    let fast = time(|i| assert!(plain::check(f, &space, &w, &pi, coin_at(k, i))));
+    let [with_checks, checks, fast] = times([
+        &mut |i| assert!(calls::check(MODULUS, basis, &w, &pi, coin_at(k, i)) <= 64),
+        &mut |_| assert_eq!(calls::setting(MODULUS, basis), 0),
+        &mut |i| assert!(plain::check(f, &space, &w, &pi, coin_at(k, i))),
+    ]);
     let slow = time(|i| assert!(model::check(MODULUS, basis, &w, &pi, coin_at(k, i)) <= 64));
     println!("k {k:2}: a coin with checks 1 to 5 {with_checks:8.1} ns, checks 1 to 5 {checks:8.1} ns");
     [encode, decode, prove, row(with_checks - checks, fast, Some(slow))]
@@ -113,8 +133,10 @@ fn stored(f: &plain::Field, basis: &[u16]) {
         let bytes = file::bytes_of(MODULUS, b, &w, &pi);
         if k == 8 {
             assert_eq!((1..6).map(|i| calls::total(&bytes, i)).collect::<Vec<_>>(), [8, 2048, 0, 64, 0]);
-            let proved = time(|_| assert_eq!(calls::total(&bytes, 3), 0));
-            let fast = time(|_| assert!((0..2048).all(|c| plain::check(f, &space, &w, &pi, c))));
+            let [proved, fast] = times([
+                &mut |_| assert_eq!(calls::total(&bytes, 3), 0),
+                &mut |_| assert!((0..2048).all(|c| plain::check(f, &space, &w, &pi, c))),
+            ]);
             println!("\nall 2048 coins of a stored file at k = 8: proved {:.3} ms, log tables {:.3} ms", proved / 1e6, fast / 1e6);
         } else {
             let mut reads = 0;
