@@ -6,3 +6,4 @@ pub mod Agreement
 pub mod Terms
 pub mod Files
 pub mod Counts
+pub mod Deliveries
