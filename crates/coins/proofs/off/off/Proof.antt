@@ -10,7 +10,7 @@ use Rattle.stored.specs.CheckLaws.{read-basis, read-images}
 use Rattle.stored.specs.File.{basisIn}
 use Rattle.stored.specs.declared.Reading.{Reading}
 use Rattle.coins.specs.Tally.{Readable}
-use Rattle.coins.proofs.FileWord.{symbolCount, small, count-is, few-symbols, word-blocks, word-off}
+use Rattle.coins.proofs.FileSymbols.{symbolCount, small, count-is, few-symbols, word-blocks, word-off}
 use borrow.Author.Needs.{needs}
 use Rattle.coins.proofs.off.off.Statement.{statement}
 use Rattle.coins.proofs.off.off.Tie as tie

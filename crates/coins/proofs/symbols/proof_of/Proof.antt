@@ -7,7 +7,7 @@ use lib.ListN.{length, take}
 use lib.Seq.{length-take-le}
 use Rattle.stored.specs.CheckLaws.{read-laid}
 use Rattle.stored.specs.declared.Reading.{Reading}
-use Rattle.coins.proofs.FileWord.{short, front-length, front-numbers}
+use Rattle.coins.proofs.FileSymbols.{short, front-length, front-numbers}
 use borrow.Author.Needs.{needs}
 use Rattle.coins.proofs.symbols.proof_of.Statement.{statement}
 use Rattle.coins.proofs.symbols.proof_of.Tie as tie

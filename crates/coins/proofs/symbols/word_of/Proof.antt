@@ -7,7 +7,7 @@ use lib.ListN.{length, take}
 use lib.Seq.{length-take-le}
 use Rattle.stored.specs.CheckLaws.{read-laid}
 use Rattle.stored.specs.declared.Reading.{Reading}
-use Rattle.coins.proofs.FileWord.{symbolCount, small, count-is, few-symbols, front-length, front-numbers}
+use Rattle.coins.proofs.FileSymbols.{symbolCount, small, count-is, few-symbols, front-length, front-numbers}
 use borrow.Author.Needs.{needs}
 use Rattle.coins.proofs.symbols.word_of.Statement.{statement}
 use Rattle.coins.proofs.symbols.word_of.Tie as tie

@@ -21,7 +21,7 @@ use Rattle.stored.specs.declared.Reading.{Reading}
 use Rattle.coins.specs.Counted.{Counted, counted-most}
 use Rattle.coins.specs.Tally.{judged, count-verdict, most-verdict}
 use Rattle.coins.specs.Totals.{Rejects, mostOf}
-use Rattle.coins.proofs.FileWord.{symbolCount, count-is, few-symbols, short}
+use Rattle.coins.proofs.FileSymbols.{symbolCount, count-is, few-symbols, short}
 use Rattle.coins.proofs.tally.totals.Statement.{statement}
 use Rattle.coins.proofs.tally.totals.Tie as tie
 
