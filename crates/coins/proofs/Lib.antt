@@ -1,4 +1,4 @@
 -- Laws that belong to no one function.
 pub mod LaneLaws
 pub mod OffFirst
-pub mod FileWord
+pub mod FileSymbols

@@ -1,5 +1,6 @@
 // The totals over all coins of a stored file.
 mod off;
+mod symbols;
 mod tally;
 
 ghost use mathlib.Core.Path.{_≡_};

@@ -1,43 +1,22 @@
 // At how many positions a word of at most 256 symbols differs from the polynomial through its first
 // eighth.
+use super::symbols;
 use field::Field;
 use stored::Reading;
-use stored::bytes::two_at;
 use transform::blocks::evaluate_blocks;
 use transform::blocks::is_codeword;
 ghost use mathlib.Core.Path.{_≡_};
 ghost use mathlib.Core.List.{List};
-ghost use Prim.Native.Nat.{ℕ, _+_, _*_, _≤_};
-ghost use lib.ListN.{length, take};
+ghost use Prim.Native.Nat.{ℕ, _*_, _≤_};
+ghost use lib.ListN.{length};
 ghost use Rattle.field.specs.Symbols.{symbols};
 ghost use Rattle.poly.specs.Codeword.{Basis};
 ghost use Rattle.space.specs.Images.{Images};
 ghost use Rattle.transform.specs.Blocks.{InBlocks};
-ghost use Rattle.stored.specs.Bytes.{numbersAt};
 ghost use Rattle.stored.specs.File.{modulusIn, dimIn, basisIn, wordIn};
 ghost use Rattle.coins.specs.Lanes.{firstLane, inOrder};
 ghost use Rattle.coins.specs.Tally.{Readable};
 ghost use Rattle.coins.specs.Totals.{differences, Off};
-
-fn no_symbols() -> [u16; 256]
-    ensures { λ r. ⌜ length r ≡ 256 ⌝ }
-{
-    [0u16; 256]
-}
-
-// The n symbols from index at on.
-fn symbols_at(file: &[u8], at: usize, n: usize) -> [u16; 256]
-    requires { ⌜ (at + 2 * n ≤ length (now file)) × (n ≤ 256) ⌝ }
-    ensures { λ r. ⌜ (length r ≡ 256) × (take n r ≡ numbersAt (now (file .entry)) at n) ⌝ }
-{
-    let mut out = no_symbols();
-    let mut i = 0;
-    while i < n {
-        out[i] = two_at(file, at + 2 * i);
-        i += 1;
-    }
-    out
-}
 
 // Copies lane 0 into all eight lanes.
 fn spread(lanes: &mut [u16])
@@ -84,12 +63,11 @@ pub fn off(file: &[u8], r: Reading) -> usize
     ensures { λ n. ⌜ Off (symbols (modulusIn (now (file .entry)))) (dimIn (now (file .entry))) (basisIn (now (file .entry))) (wordIn (now (file .entry))) n ⌝ }
 {
     let setting = r.setting;
-    let at = r.word;
     let f = setting.field;
     let images = setting.space.images;
     let k = setting.space.k;
     let n = 1usize << k;
-    let word = symbols_at(file, at, n);
-    let mut lanes = no_symbols();
+    let word = symbols::word_of(file, r);
+    let mut lanes = symbols::no_word();
     off_first(f, &images, k, &word[..n], &mut lanes[..n])
 }

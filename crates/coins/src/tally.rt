@@ -1,11 +1,13 @@
 // The verdicts at all coins, counted.
 use super::Counts;
+use super::symbols;
 use proximity::tables;
 use stored::Reading;
-use stored::check;
 use verifier::Verdict;
+use verifier::parts;
 ghost use mathlib.Core.Path.{_≡_};
-ghost use Prim.Native.Nat.{max};
+ghost use Prim.Native.Nat.{_≤_, max};
+ghost use lib.ListN.{length};
 ghost use Rattle.field.specs.Symbols.{symbols};
 ghost use Rattle.stored.specs.File.{modulusIn, dimIn, basisIn, wordIn};
 ghost use Rattle.coins.specs.Tally.{rejectsIn, readsIn, Readable};
@@ -42,23 +44,25 @@ fn larger(a: usize, b: usize) -> usize
     a
 }
 
-// The totals of an accepted file.
+// The totals of an accepted file of at most 40000 bytes.
 pub fn totals(file: &[u8], r: Reading, off: usize) -> Counts
-    requires { ⌜ Readable (now file) r × Off (symbols (modulusIn (now file))) (dimIn (now file)) (basisIn (now file)) (wordIn (now file)) off ⌝ }
+    requires { ⌜ Readable (now file) r × (length (now file) ≤ 40000) × Off (symbols (modulusIn (now file))) (dimIn (now file)) (basisIn (now file)) (wordIn (now file)) off ⌝ }
     ensures { λ t. ⌜ (t .refusal ≡ 0) × Totals (now (file .entry)) t ⌝ }
 {
     let setting = r.setting;
-    let word = r.word;
-    let proof = r.proof;
     let field = setting.field;
-    let space = setting.space;
-    let k = space.k;
+    let images = setting.space.images;
+    let k = setting.space.k;
+    let n = 1usize << k;
+    let s = tables::proof_length(k);
+    let word = symbols::word_of(file, r);
+    let proof = symbols::proof_of(file, r);
     let coins = 1u64 << tables::coin_bits(k);
     let mut rejects: u64 = 0;
     let mut most: usize = 0;
     let mut coin: u64 = 0;
     while coin < coins {
-        let v = check::verdict(field, space, file, word, proof, coin);
+        let v = parts::check_word(field, k, &images, &word[..n], &proof[..s], coin);
         rejects += rejecting(v);
         most = larger(most, reads(v));
         coin += 1;

@@ -14,3 +14,4 @@ pub mod Check
 pub mod Leaf
 pub mod CheckLaws
 pub mod OnSymbols
+pub mod Short

@@ -1,6 +1,6 @@
 // The stored file: three records, numbers lowest byte first.
 pub mod bytes;
-pub mod check;
+mod check;
 mod put;
 pub mod records;
 mod writer;

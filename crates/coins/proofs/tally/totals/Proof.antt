@@ -1,62 +1,111 @@
 -- `coins::tally::totals` meets its contract. The loop's invariant: the verdicts below the coin are counted. Assumes nothing.
-use mathlib.Core.Path.{_≡_, refl, sym, ap, ap₂, _∙_, subst}
+use mathlib.Core.Path.{_≡_, refl, sym, ap, ap₂, _∙_, subst, transport}
 use mathlib.Core.List.{List}
 use Prim.Native.Nat.{ℕ, _+_, _-_, _*_, _%_, _^_, _≤_, _<_, max}
 use native.Mathlib.Omega.{arith}
+use lib.ListN.{length, take}
 use lib.Pow.{pow-mono}
+use lib.Seq.{length-take-le}
 use Rattle.lists.specs.Answers.{Passes}
-use Rattle.proximity.specs.Dim.{R}
+use Rattle.lists.specs.Tables.{length-tab}
+use Rattle.field.specs.Symbols.{symbols}
+use Rattle.proximity.specs.Dim.{S, R}
 use Rattle.verifier.proofs.Laws.{R-small, one-shifted}
-use Rattle.verifier.specs.Checker.{readsOf}
+use Rattle.verifier.specs.Checker.{readsOf, OnCoin}
+use Rattle.stored.specs.Bytes.{twoAt, numbersAt}
 use Rattle.stored.specs.Check.{AnsweredFile}
 use Rattle.stored.specs.CheckLaws.{read-passes, read-dimension, read-basis, read-images, read-space, read-laid, read-below, read-answer}
 use Rattle.stored.specs.File.{dimIn, basisIn}
-use Rattle.stored.specs.Reader.{fileChecks}
+use Rattle.stored.specs.Reader.{fileChecks, Told}
 use Rattle.stored.specs.declared.Reading.{Reading}
 use Rattle.coins.specs.Counted.{Counted, counted-most}
-use Rattle.coins.specs.Tally.{count-verdict, most-verdict}
+use Rattle.coins.specs.Tally.{judged, count-verdict, most-verdict}
 use Rattle.coins.specs.Totals.{Rejects, mostOf}
+use Rattle.coins.proofs.FileSymbols.{symbolCount, count-is, few-symbols, short}
 use Rattle.coins.proofs.tally.totals.Statement.{statement}
 use Rattle.coins.proofs.tally.totals.Tie as tie
 
 abbrev Inv-loop : tie.InvT-loop
-Inv-loop file off word proof field space k coins rejects₀ most₀ coin₀ rejects most coin = (coin ≤ coins) × Counted (Rejects file) coin rejects × (most ≡ mostOf coin (readsOf (dimIn file)))
+Inv-loop file off field images k n s word proof coins rejects₀ most₀ coin₀ rejects most coin = (coin ≤ coins) × Counted (Rejects file) coin rejects × (most ≡ mostOf coin (readsOf (dimIn file)))
 
 abbrev μ-loop : tie.MeasureT-loop
-μ-loop file off word proof field space k coins rejects₀ most₀ coin₀ rejects most coin = coins - coin
+μ-loop file off field images k n s word proof coins rejects₀ most₀ coin₀ rejects most coin = coins - coin
 
 -- the file is accepted
-module _ (c : tie.After-coin-bits Inv-loop μ-loop) where
-  abbrev start : tie.Start Inv-loop μ-loop
-  start = c .before .before .before .before .before
-
+module _ (c : tie.Start Inv-loop μ-loop) where
   abbrev bytes : List ℕ
-  bytes = start .args .file .now
+  bytes = c .args .file .now
 
   abbrev found : Reading
-  found = start .args .r
+  found = c .args .r
+
+  abbrev told : Told (fileChecks bytes) bytes found
+  told = c .pre .0 .0
+
+  abbrev none : found .refusal ≡ 0
+  none = c .pre .0 .1
+
+  few : found .setting .space .k ≤ 12
+  few = read-laid bytes found told none .few
+
+shl-n : tie.Need-shl-n Inv-loop μ-loop
+shl-n c = omega (arith, few (c .before .before .before .before))
+
+proof-length-requires : tie.Need-proof-length-requires Inv-loop μ-loop
+proof-length-requires c κs = few (c .before .before .before .before)
+
+word-of-requires : tie.Need-word-of-requires Inv-loop μ-loop
+word-of-requires c κs = let s = c .before .before .before .before .before in (s .pre .0, s .pre .1)
+
+proof-of-requires : tie.Need-proof-of-requires Inv-loop μ-loop
+proof-of-requires c κs = let s = c .before .before .before .before .before .before in (s .pre .0, s .pre .1)
+
+coin-bits-requires : tie.Need-coin-bits-requires Inv-loop μ-loop
+coin-bits-requires c κs = few (c .before .before .before .before .before .before .before)
+
+-- the symbols are decoded
+module _ (c : tie.After-coin-bits Inv-loop μ-loop) where
+  abbrev decoded : tie.After-proof-of Inv-loop μ-loop
+  decoded = c .before
+
+  abbrev start : tie.Start Inv-loop μ-loop
+  start = decoded .before .before .before .before .before .before .before
+
+  abbrev k : ℕ
+  k = found start .setting .space .k
 
   abbrev coins : ℕ
   coins = 1 * 2 ^ c .coin-bits .result % 18446744073709551616
 
-  few : found .setting .space .k ≤ 12
-  few = read-laid bytes found (start .pre .0 .0) (start .pre .0 .1) .few
+  abbrev word : List ℕ
+  word = take (symbolCount k) (decoded .before .word-of .result)
+
+  abbrev proof : List ℕ
+  proof = take (decoded .before .before .proof-length .result) (decoded .proof-of .result)
 
   small : c .coin-bits .result < 26
-  small = omega (arith, c .coin-bits .ensures, R-small (found .setting .space .k) (omega (arith, few)))
+  small = omega (arith, c .coin-bits .ensures, R-small k (omega (arith, few start)))
 
-  dimension : found .setting .space .k ≡ dimIn bytes
-  dimension = read-dimension bytes found (start .pre .0 .0) (start .pre .0 .1)
+  dimension : k ≡ dimIn (bytes start)
+  dimension = read-dimension (bytes start) (found start) (told start) (none start)
 
-  all-coins : coins ≡ 2 ^ R (dimIn bytes)
+  all-coins : coins ≡ 2 ^ R (dimIn (bytes start))
   all-coins = one-shifted (c .coin-bits .result) (omega (arith, small)) ∙ ap (λ (n : ℕ). 2 ^ n) (c .coin-bits .ensures ∙ ap R dimension)
 
   bounded : coins ≤ 2 ^ 26
   bounded = omega (arith, one-shifted (c .coin-bits .result) (omega (arith, small)), pow-mono {i = c .coin-bits .result} {j = 26} (omega (arith, small)))
 
-coin-bits-requires : tie.Need-coin-bits-requires Inv-loop μ-loop
-coin-bits-requires c κs =
-    let start = c .before .before .before .before in read-laid (start .args .file .now) (start .args .r) (start .pre .0 .0) (start .pre .0 .1) .few
+  word-is : word ≡ numbersAt (bytes start) (found start .word) (2 ^ k)
+  word-is = ap (λ (i : ℕ). take i (decoded .before .word-of .result)) (count-is (bytes start) (found start) (start .pre .0) (start .pre .1)) ∙ decoded .before .word-of .ensures .1
+
+  proof-is : proof ≡ numbersAt (bytes start) (found start .proof) (S k)
+  proof-is = ap (λ (i : ℕ). take i (decoded .proof-of .result)) (decoded .before .before .proof-length .ensures) ∙ decoded .proof-of .ensures .1
+
+  word-fits : symbolCount k ≤ length (decoded .before .word-of .result)
+  word-fits = omega (arith, few-symbols (bytes start) (found start) (start .pre .0) (start .pre .1), decoded .before .word-of .ensures .0)
+
+  proof-fits : decoded .before .before .proof-length .result ≤ length (decoded .proof-of .result)
+  proof-fits = omega (arith, short (bytes start) (found start) (start .pre .0) (start .pre .1), decoded .before .before .proof-length .ensures, decoded .proof-of .ensures .0)
 
 cast-coins : tie.Need-cast-coins Inv-loop μ-loop
 cast-coins c = omega (arith, small c)
@@ -67,34 +116,55 @@ shl-coins c = omega (arith, small c)
 loop-holds : tie.Need-loop-holds Inv-loop μ-loop
 loop-holds c = (omega arith, refl, refl)
 
-verdict-requires : tie.Need-verdict-requires Inv-loop μ-loop
-verdict-requires c κs =
-    let t = c .before .before in
-    let f = bytes t in
-    let e = start t .pre .0 .0 in
-    let z = start t .pre .0 .1 in
-    ((read-space f (found t) e z, read-laid f (found t) e z), read-below f (found t) e z)
+array-share-prefix-word : tie.Need-array-share-prefix-word Inv-loop μ-loop
+array-share-prefix-word c = word-fits (c .before .before .before)
+
+slice-aggregate-check-word : tie.Need-slice-aggregate-check-word Inv-loop μ-loop
+slice-aggregate-check-word c = sym (length-take-le _ _ (word-fits (c .before .before .before .before)))
+
+array-share-prefix-proof : tie.Need-array-share-prefix-proof Inv-loop μ-loop
+array-share-prefix-proof c = proof-fits (c .before .before .before .before)
+
+slice-aggregate-check-word-2 : tie.Need-slice-aggregate-check-word-2 Inv-loop μ-loop
+slice-aggregate-check-word-2 c = sym (length-take-le _ _ (proof-fits (c .before .before .before .before .before)))
+
+check-word-requires : tie.Need-check-word-requires Inv-loop μ-loop
+check-word-requires c κs =
+    let t = c .before .before .before .before .before in
+    let s = start t in (
+      read-space (bytes s) (found s) (told s) (none s),
+      ap length (word-is t) ∙ length-tab (2 ^ k t) (λ i. twoAt (bytes s) (found s .word + 2 * i)),
+      ap length (proof-is t) ∙ length-tab (S (k t)) (λ i. twoAt (bytes s) (found s .proof + 2 * i)),
+    )
 
 -- the verdict at this coin
-module _ (c : tie.After-verdict Inv-loop μ-loop) where
+module _ (c : tie.After-check-word Inv-loop μ-loop) where
   abbrev head : tie.At-loop Inv-loop μ-loop
-  head = c .before .before
+  head = c .before .before .before .before .before
 
   abbrev at : tie.After-coin-bits Inv-loop μ-loop
   at = head .before
 
-  inside : head .loop .coin < 2 ^ R (dimIn (bytes at))
+  abbrev file : List ℕ
+  file = bytes (start at)
+
+  inside : head .loop .coin < 2 ^ R (dimIn file)
   inside = omega (arith, all-coins at)
 
-  answered : AnsweredFile (bytes at) (head .loop .coin) (c .verdict .result)
+  answered : AnsweredFile file (head .loop .coin) (c .check-word .result)
   answered =
-      let f = bytes at in
-      let e = start at .pre .0 .0 in
-      let z = start at .pre .0 .1 in
-      read-answer f (found at) e z (head .loop .coin) inside (c .verdict .result) (c .verdict .ensures (basisIn f) (read-basis f (found at) e z) (read-images f (found at) e z))
+      let s = start at in
+      let r = found s in
+      let b = basisIn file in
+      let m = r .setting .field .modulus in
+      let v = c .check-word .result in
+      let below = read-below file r (told s) (none s) in
+      read-answer file r (told s) (none s) (head .loop .coin) inside v
+      (judged m (k at) b (numbersAt file (r .word) (2 ^ k at)) (numbersAt file (r .proof) (S (k at))) (head .loop .coin) (below .0) (below .1) v
+      (transport (λ i. OnCoin (symbols m) (k at) b (word-is at i) (proof-is at i) (head .loop .coin) v) (c .check-word .ensures b (read-basis file r (told s) (none s)) (read-images file r (told s) (none s)))))
 
-  passed : Passes (fileChecks (bytes at))
-  passed = read-passes (bytes at) (found at) (start at .pre .0 .0) (start at .pre .0 .1)
+  passed : Passes (fileChecks file)
+  passed = read-passes file (found (start at)) (told (start at)) (none (start at))
 
 rejecting-requires : tie.Need-rejecting-requires Inv-loop μ-loop
 rejecting-requires c κs = tt
@@ -103,8 +173,8 @@ add-rejects : tie.Need-add-rejects Inv-loop μ-loop
 add-rejects c =
     let t = c .before in
     let h = head t in
-    let next = count-verdict (bytes (at t)) (passed t) (h .loop .coin) (inside t) (t .verdict .result) (answered t) (h .loop .rejects) (h .loop .inv .1) in
-    omega (arith, c .rejecting .ensures, counted-most (Rejects (bytes (at t))) (h .loop .coin + 1) next, bounded (at t))
+    let next = count-verdict (file t) (passed t) (h .loop .coin) (inside t) (t .check-word .result) (answered t) (h .loop .rejects) (h .loop .inv .1) in
+    omega (arith, c .rejecting .ensures, counted-most (Rejects (file t)) (h .loop .coin + 1) next, bounded (at t))
 
 reads-requires : tie.Need-reads-requires Inv-loop μ-loop
 reads-requires c κs = tt
@@ -122,18 +192,18 @@ loop-again : tie.Need-loop-again Inv-loop μ-loop
 loop-again c =
     let t = c .before .before .before in
     let h = head t in
-    let f = bytes (at t) in (
+    let f = file t in (
       omega arith,
       subst (λ (n : ℕ). Counted (Rejects f) (h .loop .coin + 1) (h .loop .rejects + n)) (sym (c .before .before .rejecting .ensures))
-          (count-verdict f (passed t) (h .loop .coin) (inside t) (t .verdict .result) (answered t) (h .loop .rejects) (h .loop .inv .1)),
-      c .larger .ensures ∙ ap₂ max (h .loop .inv .2) (c .before .reads .ensures) ∙ most-verdict f (passed t) (h .loop .coin) (inside t) (t .verdict .result) (answered t),
+          (count-verdict f (passed t) (h .loop .coin) (inside t) (t .check-word .result) (answered t) (h .loop .rejects) (h .loop .inv .1)),
+      c .larger .ensures ∙ ap₂ max (h .loop .inv .2) (c .before .reads .ensures) ∙ most-verdict f (passed t) (h .loop .coin) (inside t) (t .check-word .result) (answered t),
     )
 
 returns : tie.Need-returns Inv-loop μ-loop
 returns c =
     let h = c .before in
     let t = h .before in
-    let f = bytes t in
+    let f = bytes (start t) in
     let last : h .loop .coin ≡ 2 ^ R (dimIn f) = omega (arith, all-coins t) in (
       refl,
       record {
@@ -141,7 +211,7 @@ returns c =
         coins = all-coins t;
         rejects = subst (λ (n : ℕ). Counted (Rejects f) n (h .loop .rejects)) last (h .loop .inv .1);
         most = h .loop .inv .2 ∙ ap (λ (n : ℕ). mostOf n (readsOf (dimIn f))) last;
-        off = start t .pre .1;
+        off = start t .pre .2;
       },
     )
 
@@ -151,11 +221,19 @@ totals-spec =
     (tie.spec
     Inv-loop
     μ-loop
+    shl-n
+    proof-length-requires
+    word-of-requires
+    proof-of-requires
     coin-bits-requires
     cast-coins
     shl-coins
     loop-holds
-    verdict-requires
+    array-share-prefix-word
+    slice-aggregate-check-word
+    array-share-prefix-proof
+    slice-aggregate-check-word-2
+    check-word-requires
     rejecting-requires
     add-rejects
     reads-requires

@@ -7,8 +7,8 @@ use lib.ListN.{length, take}
 use lib.Pow.{pow-mono}
 use lib.Seq.{length-take-le}
 use Rattle.prover.specs.Calls.{ProofOf}
+use Rattle.stored.specs.Short.{short-proof}
 use Rattle.delivery.specs.Steps.{proven}
-use Rattle.delivery.specs.TableLaws.{short-proof}
 use Rattle.delivery.proofs.Laws.{length-back, front-back}
 use borrow.Author.Needs.{needs}
 use Rattle.delivery.proofs.parts.proof_of.Statement.{statement}

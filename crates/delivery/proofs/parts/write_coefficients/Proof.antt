@@ -9,8 +9,8 @@ use Rattle.field.specs.Symbols.{symbols}
 use Rattle.poly.specs.Codeword.{wordOf}
 use Rattle.prover.specs.Calls.{ProofOf}
 use Rattle.stored.specs.File.{fileOf}
+use Rattle.stored.specs.Short.{short-proof}
 use Rattle.delivery.specs.Steps.{written}
-use Rattle.delivery.specs.TableLaws.{short-proof}
 use Rattle.delivery.proofs.Laws.{at-most}
 use borrow.Author.Needs.{needs}
 use Rattle.delivery.proofs.parts.write_coefficients.Statement.{statement}

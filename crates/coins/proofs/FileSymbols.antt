@@ -1,19 +1,17 @@
--- The word of an accepted file of at most 40000 bytes. Assumes nothing.
+-- The symbols of an accepted file of at most 40000 bytes. Assumes nothing.
 use mathlib.Core.Path.{_≡_, sym, ap, ap₂, _∙_, subst, transport}
-use mathlib.Core.List.{List}
-use Prim.Native.Nat.{ℕ, _+_, _-_, _*_, _%_, _^_, _≤_, _<_}
-use native.Mathlib.Decide.{decLt}
+use mathlib.Core.List.{List, _++_}
+use Prim.Native.Nat.{ℕ, _+_, _*_, _%_, _^_, _≤_}
 use native.Mathlib.Omega.{arith}
-use lib.ListN.{length, getD, drop}
+use lib.ListN.{length, take, drop, length-append, length-drop}
 use lib.Pow.{pow-mono}
-use lib.Seq.{getD-drop}
-use Rattle.lists.specs.All.{Below, All-inside}
+use lib.Seq.{take-at, length-take-le}
+use Rattle.lists.specs.All.{Below}
 use Rattle.lists.specs.Answers.{Passes}
-use Rattle.lists.specs.Tables.{table-at, length-tab}
+use Rattle.lists.specs.Tables.{length-tab}
 use Rattle.field.specs.Binary.{degree}
 use Rattle.field.specs.Symbols.{symbols}
 use Rattle.proximity.specs.Dim.{S}
-use Rattle.proximity.specs.Tree.{lengths, tables-right}
 use Rattle.verifier.proofs.Laws.{one-shifted}
 use Rattle.transform.specs.Blocks.{InBlocks}
 use Rattle.stored.specs.Accepted.{accepted, read-places}
@@ -21,25 +19,28 @@ use Rattle.stored.specs.Bytes.{twoAt, numbersAt}
 use Rattle.stored.specs.CheckLaws.{read-passes, read-ready, read-dimension, read-space, read-images, read-below}
 use Rattle.stored.specs.File.{modulusIn, dimIn, basisIn, wordIn}
 use Rattle.stored.specs.Reader.{fileChecks}
+use Rattle.stored.specs.Short.{short-proof, short-file}
 use Rattle.stored.specs.declared.Reading.{Reading}
 use Rattle.coins.specs.Tally.{Readable}
 use Rattle.coins.specs.Totals.{Off}
 
--- proofs of dimension 9 and more are long
-long-proof : (k : ℕ) → 9 ≤ k → k ≤ 12 → 20000 < S k
-long-proof k h l =
-    let place : 9 + (k - 9) ≡ k = omega arith in
-    subst (λ (x : ℕ). 20000 < x)
-    (getD-drop 9 lengths (k - 9) 0 ∙ ap (λ (i : ℕ). getD lengths i 0) place ∙ table-at S lengths 15 (tables-right .0) k (omega arith))
-    (All-inside (λ (x : ℕ). 20000 < x) (drop 9 lengths) 0 (omega arith) (k - 9) (omega arith))
+-- the numbers that were written into the first n places of a list
+module _ (f : List ℕ) (at n : ℕ) (old new : List ℕ) (h : n ≤ length old) (e : new ≡ numbersAt f at (length (take n old))) where
+  part : length (take n old) ≡ n
+  part = length-take-le n old h
 
--- so that the dimension is at most 8
+  long : length new ≡ n
+  long = ap length e ∙ length-tab (length (take n old)) (λ i. twoAt f (at + 2 * i)) ∙ part
+
+  pub front-length : length (new ++ drop n old) ≡ length old
+  front-length = length-append new (drop n old) ∙ omega (arith, long, length-drop n old)
+
+  pub front-numbers : {m : ℕ} → n ≡ m → take m (new ++ drop n old) ≡ numbersAt f at m
+  front-numbers {m} g = take-at new (drop n old) m (long ∙ g) ∙ e ∙ ap (numbersAt f at) (part ∙ g)
+
+-- the dimension is at most 8
 pub small-dimension : (f : List ℕ) → Passes (fileChecks f) → length f ≤ 40000 → dimIn f ≤ 8
-small-dimension f p h = by (decLt 8 (dimIn f))
-  where
-    by : Dec (8 < dimIn f) → dimIn f ≤ 8
-    by (no g) = omega arith
-    by (yes g) = let a = accepted f p in absurd (omega (arith, a .whole, long-proof (dimIn f) g (a .records .head .high)))
+small-dimension f p h = let a = accepted f p in short-file (dimIn f) (a .records .head .high) (omega (arith, a .whole))
 
 -- the number of symbols, as it is computed
 abbrev pub symbolCount : ℕ → ℕ
@@ -59,7 +60,10 @@ module _ (f : List ℕ) (r : Reading) (a : Readable f r) where
     pub few-symbols : symbolCount k ≤ 256
     few-symbols = omega (arith, count-is, pow-mono {i = k} {j = 8} (small h))
 
-    pub word-blocks : (w : List ℕ) → w ≡ numbersAt f (r .word) (symbolCount k) → InBlocks (r .setting .field) (r .setting .space .images) k w
+    pub short : S k ≤ 16128
+    short = short-proof k (small h)
+
+    pub word-blocks : (w : List ℕ) → w ≡ numbersAt f (r .word) (2 ^ k) → InBlocks (r .setting .field) (r .setting .space .images) k w
     word-blocks w e =
         let s = read-space f r (a .0) (a .1) in
         record {
@@ -67,17 +71,17 @@ module _ (f : List ℕ) (r : Reading) (a : Readable f r) where
           irreducible = s .irreducible;
           low = s .low;
           high = s .high;
-          long = ap length e ∙ length-tab (symbolCount k) (λ i. twoAt f (r .word + 2 * i)) ∙ count-is;
+          long = ap length e ∙ length-tab (2 ^ k) (λ i. twoAt f (r .word + 2 * i));
           image-symbols = read-images f r (a .0) (a .1) .elements;
-          symbols = subst (Below (2 ^ degree (r .setting .field .modulus))) (sym (e ∙ ap (numbersAt f (r .word)) count-is)) (read-below f r (a .0) (a .1) .0);
+          symbols = subst (Below (2 ^ degree (r .setting .field .modulus))) (sym e) (read-below f r (a .0) (a .1) .0);
         }
 
     -- what is off in the word that was read
-    pub word-off : (w : List ℕ) (n : ℕ) → w ≡ numbersAt f (r .word) (symbolCount k) → Off (symbols (r .setting .field .modulus)) k (basisIn f) w n
+    pub word-off : (w : List ℕ) (n : ℕ) → w ≡ numbersAt f (r .word) (2 ^ k) → Off (symbols (r .setting .field .modulus)) k (basisIn f) w n
         → Off (symbols (modulusIn f)) (dimIn f) (basisIn f) (wordIn f) n
     unfolding wordIn
     word-off w n e o =
         let modulus : r .setting .field .modulus ≡ modulusIn f = read-ready f r (a .0) (a .1) .modulus in
         let dimension : k ≡ dimIn f = read-dimension f r (a .0) (a .1) in
-        let same : w ≡ wordIn f = e ∙ ap₂ (numbersAt f) (read-places f r (a .0) (a .1) .word) (count-is ∙ ap (λ (j : ℕ). 2 ^ j) dimension) in
+        let same : w ≡ wordIn f = e ∙ ap₂ (numbersAt f) (read-places f r (a .0) (a .1) .word) (ap (λ (j : ℕ). 2 ^ j) dimension) in
         transport (λ i. Off (symbols (modulus i)) (dimension i) (basisIn f) (same i) n) o
