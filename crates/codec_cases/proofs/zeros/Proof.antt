@@ -14,14 +14,14 @@ abbrev μ-loop : tie.MeasureT-loop
 loop-holds : tie.Need-loop-holds Inv-loop μ-loop
 loop-holds c = omega arith
 
-mul-one-if-zero : tie.Need-mul-one-if-zero Inv-loop μ-loop
-mul-one-if-zero c = omega arith
+mul-one-if : tie.Need-mul-one-if Inv-loop μ-loop
+mul-one-if c = omega arith
 
-shared-slice-read-one-if-zero : tie.Need-shared-slice-read-one-if-zero Inv-loop μ-loop
-shared-slice-read-one-if-zero c = omega arith
+shared-slice-read-one-if : tie.Need-shared-slice-read-one-if Inv-loop μ-loop
+shared-slice-read-one-if c = omega arith
 
-one-if-zero-requires : tie.Need-one-if-zero-requires Inv-loop μ-loop
-one-if-zero-requires c κs = omega arith
+one-if-requires : tie.Need-one-if-requires Inv-loop μ-loop
+one-if-requires c κs = omega arith
 
 add-n : tie.Need-add-n Inv-loop μ-loop
 add-n c = omega arith
@@ -45,9 +45,9 @@ zeros-spec =
     Inv-loop
     μ-loop
     loop-holds
-    mul-one-if-zero
-    shared-slice-read-one-if-zero
-    one-if-zero-requires
+    mul-one-if
+    shared-slice-read-one-if
+    one-if-requires
     add-n
     add-i
     loop-less

@@ -1,9 +1,9 @@
--- `codec_cases::digest` meets its contract. Assumes nothing.
+-- `codec_cases::largest::digest` meets its contract. Assumes nothing.
 use Prim.Native.Nat.{_-_, _≤_, _<_}
 use native.Mathlib.Omega.{arith}
 use lib.ListN.{length}
-use Rattle.codec_cases.proofs.digest.Statement.{statement}
-use Rattle.codec_cases.proofs.digest.Tie as tie
+use Rattle.codec_cases.proofs.largest.digest.Statement.{statement}
+use Rattle.codec_cases.proofs.largest.digest.Tie as tie
 
 abbrev Inv-loop : tie.InvT-loop
 Inv-loop xs h₀ i₀ h i = (i ≤ length xs) × (h < 65521)

@@ -1,11 +1,11 @@
--- `codec_cases::fill` meets its contract. Assumes nothing.
+-- `codec_cases::largest::fill` meets its contract. Assumes nothing.
 use Prim.Native.Nat.{_-_, _≤_, _<_}
 use native.Mathlib.Omega.{arith}
 use mathlib.Core.Path.{_≡_}
 use lib.ListN.{length}
 use borrow.Author.Needs.{needs}
-use Rattle.codec_cases.proofs.fill.Statement.{statement}
-use Rattle.codec_cases.proofs.fill.Tie as tie
+use Rattle.codec_cases.proofs.largest.fill.Statement.{statement}
+use Rattle.codec_cases.proofs.largest.fill.Tie as tie
 
 abbrev Inv-loop : tie.InvT-loop
 Inv-loop values₀ x₀ i₀ values x i = (i ≤ length values₀) × (length values ≡ length values₀) × (x < 65536)

@@ -1,0 +1,86 @@
+// There and back at dimension 12 over GF(2^16), and the word with another last symbol. Of the output
+// a digest is shown.
+use super::cleared;
+use super::outcome;
+use codec::Outcome;
+use libc::STDOUT_FILENO;
+
+// A number that depends on each symbol and its place.
+fn digest(xs: &[u16]) -> u32 {
+    let mut h: u32 = 1;
+    let mut i = 0;
+    while i < xs.len() {
+        h = (h * 5 + xs[i] as u32) % 65521;
+        i += 1;
+    }
+    h
+}
+
+fn show(label: &[u8], r: Outcome, out: &[u16], scratch: &[u16]) {
+    outcome(label, r);
+    io::write_all(STDOUT_FILENO, b" digest ");
+    io::print_decimal(STDOUT_FILENO, digest(out) as u64);
+    cleared(scratch);
+}
+
+fn fill(values: &mut [u16]) {
+    let mut x: u32 = 1;
+    let mut i = 0;
+    while i < values.len() {
+        x = (x * 25173 + 13849) % 65536;
+        values[i] = x as u16;
+        i += 1;
+    }
+}
+
+fn small_room() -> [u16; 512] {
+    [9u16; 512]
+}
+
+fn word_room() -> [u16; 4096] {
+    [9u16; 4096]
+}
+
+fn scratch_room() -> [u16; 16384] {
+    [7u16; 16384]
+}
+
+fn basis() -> [u16; 12] {
+    [
+        1,
+        3,
+        70,
+        500,
+        1027,
+        2049,
+        5000,
+        9001,
+        17000,
+        33000,
+        40001,
+        60007,
+    ]
+}
+
+fn encode(word: &mut [u16], scratch: &mut [u16]) {
+    let mut coefficients = small_room();
+    fill(&mut coefficients);
+    let r = codec::encode(69643, &basis(), &coefficients, word, scratch);
+    show(b"encode 12:", r, word, scratch);
+}
+
+fn decode(label: &[u8], word: &[u16], scratch: &mut [u16]) {
+    let mut coefficients = small_room();
+    let r = codec::decode(69643, &basis(), word, &mut coefficients, scratch);
+    show(label, r, &coefficients, scratch);
+}
+
+// There and back, and the word with another last symbol.
+pub fn largest() {
+    let mut word = word_room();
+    let mut scratch = scratch_room();
+    encode(&mut word, &mut scratch);
+    decode(b"decode 12:", &word, &mut scratch);
+    word[4095] ^= 1;
+    decode(b"decode 12, last symbol changed:", &word, &mut scratch);
+}
