@@ -1,12 +1,4 @@
 -- Lemmas of the proofs.
-pub mod Cells
-pub mod Evaluate
-pub mod Folding
-pub mod Recursion
-pub mod Scaling
-pub mod Bases
-pub mod Loading
-pub mod NovelLaws
 pub mod Spreading
 pub mod WordLaws
 pub mod CallLaws

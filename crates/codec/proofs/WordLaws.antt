@@ -27,7 +27,7 @@ use Rattle.space.specs.declared.Setting.{Setting}
 use Rattle.transform.specs.Slices.{Transposed}
 use Rattle.transform.specs.Blocks.{block, InBlocks, BlocksEvaluated, Tested}
 use Rattle.transform.proofs.BlockLaws.{eight}
-use Rattle.codec.specs.Novel.{Stepped, StepsOf, NovelOf, PowersOf}
+use Rattle.novel.specs.Novel.{Stepped, StepsOf, NovelOf, PowersOf}
 use Rattle.codec.specs.Words.{spreadOf, Usable, Filling, LanesOf, InBlockZero}
 use Rattle.codec.specs.Calls.{CoefficientsOf}
 use Rattle.codec.proofs.Spreading.{length-spread, spread-each, spread-lane}

@@ -1,8 +1,4 @@
--- Encoder and decoder: the change of basis between products of subspace polynomials and powers of x, and the two calls.
-pub mod Sparse
-pub mod Convert
-pub mod Scales
-pub mod Novel
+-- Encoder and decoder: words from coefficients and back, and the two calls.
 pub mod Early
 pub mod Calls
 pub mod Checks

@@ -1,6 +1,6 @@
 // From a codeword to its coefficients, in a setting that passed its checks.
-use super::novel::powers_of;
 use field::modulus::all_symbols;
+use novel::powers_of;
 use space::Setting;
 use transform::blocks::is_codeword;
 use transform::slices::copy;

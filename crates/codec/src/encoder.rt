@@ -1,7 +1,7 @@
 // From coefficients to the word, in a setting that passed its checks.
-use super::novel::novel_of;
 use field::Field;
 use field::modulus::all_symbols;
+use novel::novel_of;
 use space::Setting;
 use transform::blocks::evaluate_blocks;
 use transform::slices::transpose;

@@ -1,13 +1,11 @@
 // Encoder and decoder. A call makes its checks in order; a refusal leaves its output as it came, and
 // past check 7 the scratch is zero.
-pub mod convert;
 pub mod decoder;
 pub mod encoder;
-pub mod novel;
 
-use convert::power;
 use decoder::decode_with;
 use encoder::encode_with;
+use novel::convert::power;
 use transform::slices::clear;
 ghost use mathlib.Core.Path.{_≡_};
 ghost use Prim.Native.Nat.{_≤_};

@@ -1,6 +1,6 @@
 // The checks of a table file, front to back.
-use codec::convert::power;
 use field::Field;
+use novel::convert::power;
 use proximity::tables;
 use stored::records;
 ghost use mathlib.Core.Path.{_≡_};

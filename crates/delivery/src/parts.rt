@@ -1,5 +1,5 @@
 // The word, the proof and the stored file, of a table that passed its checks.
-use codec::convert::power;
+use novel::convert::power;
 use proximity::tables;
 use stored::bytes;
 ghost use mathlib.Core.Path.{_≡_};

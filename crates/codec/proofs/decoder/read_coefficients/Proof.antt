@@ -11,7 +11,7 @@ use Rattle.lists.specs.Overwrite.{copy-whole}
 use Rattle.lists.specs.Stretch.{stretch, length-stretch}
 use Rattle.field.specs.Binary.{degree}
 use Rattle.transform.proofs.BlockLaws.{eight}
-use Rattle.codec.proofs.Loading.{part-stretch}
+use Rattle.novel.proofs.Loading.{part-stretch}
 use Rattle.codec.proofs.WordLaws.{stepped, stepped-inverses, read}
 use Rattle.codec.proofs.decoder.read_coefficients.Statement.{statement}
 use Rattle.codec.proofs.decoder.read_coefficients.Tie as tie

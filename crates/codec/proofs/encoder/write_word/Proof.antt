@@ -12,7 +12,7 @@ use Rattle.field.specs.Binary.{degree}
 use Rattle.transform.specs.Slices.{Transposed}
 use Rattle.transform.proofs.BlockLaws.{eight}
 use Rattle.codec.specs.Words.{LanesOf}
-use Rattle.codec.proofs.Loading.{part-stretch}
+use Rattle.novel.proofs.Loading.{part-stretch}
 use Rattle.codec.proofs.WordLaws.{stepped, written}
 use Rattle.codec.proofs.encoder.write_word.Statement.{statement}
 use Rattle.codec.proofs.encoder.write_word.Tie as tie

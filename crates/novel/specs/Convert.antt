@@ -1,0 +1,73 @@
+-- Coefficients of powers of x, and those of the products of W_j over the one bits j of a coefficient's number.
+use mathlib.Core.Path.{_≡_}
+use mathlib.Core.List.{List}
+use Prim.Native.Nat.{ℕ, zero, suc, _+_, _*_, _/_, _^_, _≤_, _<_}
+use lib.ListN.{length, getD, take, drop}
+use Rattle.lists.specs.All.{All, Below, IsZero}
+use Rattle.lists.specs.Stretch.{stretch}
+use Rattle.field.specs.Binary.{degree, Irreducible}
+use Rattle.field.specs.Laws.{Ops}
+use Rattle.field.specs.Products.{Sized}
+use Rattle.field.specs.Symbols.{symbols}
+use Rattle.field.specs.declared.Field.{Field}
+use Rattle.poly.specs.Poly.{eval}
+use Rattle.novel.specs.Sparse.{linear}
+
+module _ (K : Ops) where
+  infixl 60 _⊕_
+  infixl 70 _⊗_
+  open Ops K using (_⊕_, _⊗_)
+
+  -- x^n v
+  unfoldable pub raised : ℕ → ℕ → ℕ → ℕ
+  raised zero x v = v
+  raised (suc n) x v = x ⊗ raised n x v
+
+  -- the sum of coefficient i times the product of g j over the one bits j of i, i below 2^m
+  unfoldable pub evalBy : (ℕ → ℕ) → ℕ → List ℕ → ℕ
+  evalBy g zero d = getD d 0 0
+  evalBy g (suc j) d = evalBy g j (take (2 ^ j) d) ⊕ g j ⊗ evalBy g j (drop (2 ^ j) d)
+
+-- row j of the table
+abbrev pub rowOf : List ℕ → ℕ → ℕ → ℕ
+rowOf table j i = getD table (12 * j + i) 0
+
+-- W_j(x), from row j of the table
+abbrev pub valueBy : ℕ → List ℕ → ℕ → ℕ → ℕ
+valueBy q table j x = linear (symbols q) (rowOf table j) (suc j) x
+
+-- 256 zeros at least
+pub record Zeros (none : List ℕ) : Type 0 where
+  pub zero : All IsZero none
+  pub many : 256 ≤ length none
+
+-- what the change of basis for 2^m coefficients takes
+pub record Tabled (f : Field) (none table : List ℕ) (m : ℕ) : Type 0 where
+  pub sized : Sized f
+  pub irreducible : Irreducible (f .modulus)
+  pub zeros : Zeros none
+  pub few : m ≤ 9
+  pub below : Below (2 ^ degree (f .modulus)) table
+  pub lead : (j : ℕ) → j < m → rowOf table j j ≡ 1
+
+-- the terms of W_j with x^(2^0) to x^(2^(i-1)), x^at times the 2^j/2 coefficients at `at + 2^j`, are added
+pub record Folded (q : ℕ) (table : List ℕ) (j i at : ℕ) (old new : List ℕ) : Type 0 where
+  pub kept : length new ≡ length old
+  pub below : Below (2 ^ degree q) new
+  pub beyond : (p : ℕ) → at + 2 ^ j ≤ p → getD new p 0 ≡ getD old p 0
+  pub values : (x : ℕ) → eval (symbols q) new x
+      ≡ symbols q ._⊕_ (eval (symbols q) old x)
+      (raised (symbols q) at x (symbols q ._⊗_ (linear (symbols q) (rowOf table j) i x) (eval (symbols q) (stretch (2 ^ j / 2) (at + 2 ^ j) old) x)))
+
+-- `whole` is low + W_j high, of the halves of `parts`
+pub record Expanded (q : ℕ) (table : List ℕ) (j : ℕ) (parts whole : List ℕ) : Type 0 where
+  pub kept : length whole ≡ length parts
+  pub below : Below (2 ^ degree q) parts × Below (2 ^ degree q) whole
+  pub values : (x : ℕ) → x < 2 ^ degree q → eval (symbols q) whole x
+      ≡ symbols q ._⊕_ (eval (symbols q) (take (2 ^ j) parts) x) (symbols q ._⊗_ (valueBy q table j x) (eval (symbols q) (drop (2 ^ j) parts) x))
+
+-- `powers` are the coefficients of powers of x of the polynomial with the 2^m coefficients `products` over the products of W_j
+pub record Monomials (q : ℕ) (table : List ℕ) (m : ℕ) (products powers : List ℕ) : Type 0 where
+  pub kept : length powers ≡ length products
+  pub below : Below (2 ^ degree q) products × Below (2 ^ degree q) powers
+  pub values : (x : ℕ) → x < 2 ^ degree q → eval (symbols q) powers x ≡ evalBy (symbols q) (λ j. valueBy q table j x) m products
