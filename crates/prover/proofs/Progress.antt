@@ -32,10 +32,10 @@ use Rattle.proximity.specs.declared.Line.the-variants.{Row, Column}
 use Rattle.proximity.specs.ByLine.{InRange, lineDim, lineBasis, lineWord, lineProof, proofAt, proofEnd}
 use Rattle.proximity.specs.LineImages.{LineTable}
 use Rattle.proximity.specs.LineLaws.{line-falls, line-at-least, line-proof-fits, rows-before, length-line-proof, line-basis, line-proof-cut}
-use Rattle.prover.specs.Rows.{InTable, Stored}
+use Rattle.rows.specs.Rows.{InTable, Stored}
 use Rattle.prover.specs.Prover.{Proving, Proved, lineAt, Deep}
 use Rattle.prover.proofs.LineOrder.{at-row, at-column, line-order}
-use Rattle.prover.proofs.RowCodewords.{row-codeword}
+use Rattle.rows.proofs.RowCodewords.{row-codeword}
 
 -- the symbols of a codeword
 module _ {K : Ops} (F : IsField K) (k : ℕ) (b w : List ℕ) (B : Basis K k b) (c : Codeword K k b w) where

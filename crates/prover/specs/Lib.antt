@@ -1,5 +1,4 @@
--- The prover: the rows of a word, and the proof that is written.
-pub mod Rows
+-- The prover: the proof that is written, and the call.
 pub mod Prover
 pub mod Calls
 pub mod Determined

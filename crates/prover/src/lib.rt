@@ -1,7 +1,5 @@
 // The prover: the proof of a codeword. A call makes its checks in order; a refusal leaves the proof
 // as it came, and past check 7 the scratch is zero.
-pub mod rows;
-pub mod words;
 pub mod write;
 
 use codec::Outcome;

@@ -1,11 +1,10 @@
 // The proof of a codeword: the stored rows, then the same inside each row and each column of a
 // dimension above 6, each inner proof in its own stretch.
-use super::rows;
-use super::words;
 use field::Field;
 use proximity::Line;
 use proximity::lines;
 use proximity::spaces;
+use rows::words;
 ghost use mathlib.Core.Path.{_≡_};
 ghost use Prim.Native.Nat.{_*_, _^_, _≤_};
 ghost use lib.ListN.{length};

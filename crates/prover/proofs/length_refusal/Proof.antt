@@ -3,7 +3,7 @@ use mathlib.Core.Path.{_≡_, sym, _∙_}
 use Prim.Native.Nat.{_*_, _%_, _^_}
 use native.Mathlib.Omega.{arith}
 use lib.Pow.{pow-mono}
-use Rattle.prover.proofs.Passes.{power}
+use Rattle.rows.proofs.Passes.{power}
 use Rattle.prover.proofs.CallLaws.{six-word, six-proof, seven, lengths-right}
 use borrow.Author.Needs.{needs}
 use Rattle.prover.proofs.length_refusal.Statement.{statement}

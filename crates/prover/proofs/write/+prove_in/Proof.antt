@@ -10,15 +10,15 @@ use Rattle.proximity.specs.Tree.{S-node}
 use Rattle.proximity.specs.ByLine.{InRange}
 use Rattle.proximity.specs.LineLaws.{S-small, line-falls}
 use Rattle.prover.specs.Prover.{Deep}
-use Rattle.prover.proofs.Passes.{power}
+use Rattle.rows.proofs.Passes.{power}
 use Rattle.prover.proofs.Progress.{Progress, in-table, code-word, proved-leaf, progress-none, progress-turn, progress-all, line-in-range, inner-room, stretch-fits, inner-proving, inner-length}
 use borrow.Fn.Kinds.{In}
 use borrow.Fn.PlainCycle.{Measures, is, falls, and}
 use Rattle.prover.proofs.write.prove_in.Reads as prove-in
 use Rattle.prover.proofs.write.prove_in.Kinds as prove-in-kinds
 use Rattle.prover.proofs.write.+prove_in.Lts-prove_in as prove-in-lts
-use Rattle.prover.proofs.rows.fill_rows.Reads as fill-rows-reads
-use Rattle.prover.proofs.words.line_word.Reads as line-word-reads
+use Rattle.rows.proofs.fill_rows.Reads as fill-rows-reads
+use Rattle.rows.proofs.words.line_word.Reads as line-word-reads
 use Rattle.prover.proofs.write.deep_lines.Reads as deep-lines-reads
 use Rattle.prover.proofs.write.line_at.Reads as line-at-reads
 use Rattle.proximity.proofs.lines.line_dimension.Reads as line-dimension-reads

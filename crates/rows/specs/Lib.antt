@@ -1,0 +1,2 @@
+-- The rows of a word.
+pub mod Rows
