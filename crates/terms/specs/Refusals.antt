@@ -1,0 +1,75 @@
+-- Sentence 1, what a contract can say of it: bad input gets one of the listed numbers, by the order of checks, and a refused call leaves its
+-- output as it came, and scratch as it came or all zeros. That no call leaves a lent buffer, loses a bit or runs without end is what it
+-- means that each function is proved, with no precondition on the public calls.
+use mathlib.Core.Path.{_≡_, refl}
+use mathlib.Core.List.{List}
+use Prim.Native.Nat.{ℕ, _≤_, _<_}
+use native.Mathlib.Omega.{arith}
+use lib.ListN.{length}
+use Rattle.lists.specs.Answers.{Checks, Answers, Passes, answers-one}
+use Rattle.lists.specs.Calls.{zeros, RefusedWith, Within, answer-within}
+use Rattle.verifier.specs.Checker as checker
+use Rattle.verifier.specs.declared.Verdict.the-variants as verdict
+use Rattle.stored.specs.Writer.{writerChecks, Wrote}
+use Rattle.stored.specs.declared.Outcome.the-variants as written
+use Rattle.codec.specs.Calls.{encodeChecks, decodeChecks, Encoded, Decoded, Told}
+use Rattle.codec.specs.declared.Outcome.{Outcome}
+use Rattle.codec.specs.declared.Outcome.the-variants.{Done, Refused}
+use Rattle.prover.specs.Calls.{proveChecks, Proven}
+use Rattle.delivery.specs.Table as making
+use Rattle.delivery.specs.declared.Made.the-variants as made
+
+-- A table of checks gives at most one number, and none that it does not list.
+pub one-number : (cs : Checks) {r s : ℕ} → Answers cs r → Answers cs s → r ≡ s
+one-number = answers-one
+
+-- ---- encoder, decoder and prover
+
+-- the number n and what the call leaves: up to check 7 the scratch is as it came, past it all zeros
+pub record LeftBy (n : ℕ) (old new scratch left : List ℕ) : Type 0 where
+  pub number : (0 < n) × (n ≤ 10)
+  pub output : new ≡ old
+  pub early : n ≤ 7 → left ≡ scratch
+  pub late : 7 < n → left ≡ zeros (length scratch)
+
+module _ (cs : Checks) (old new scratch left : List ℕ) where
+  left-by : Within 10 cs → (n : ℕ) → RefusedWith cs n old new scratch left → LeftBy n old new scratch left
+  left-by w n r = record { number = (r .refuses .0, answer-within cs w (r .refuses .1)); output = r .untouched; early = r .early; late = r .late }
+
+  done : (Right : List ℕ → Type 0) → Passes cs → (u : Outcome) → Told cs Right old new scratch left u → u ≡ Done
+  done Right p Done t = refl
+  done Right p (Refused n) t = let e : 0 ≡ n = answers-one cs p (t .refuses .1) in absurd (omega (arith, t .refuses .0))
+
+module _ (m : ℕ) (bs p old new scratch left : List ℕ) where
+  pub refused-encoding : (n : ℕ) → Encoded m bs p old new scratch left (Refused n) → LeftBy n old new scratch left
+  refused-encoding = left-by (encodeChecks m bs p (length old) (length scratch)) old new scratch left (search (arith) depth 30)
+
+  pub refused-decoding : (n : ℕ) → Decoded m bs p old new scratch left (Refused n) → LeftBy n old new scratch left
+  refused-decoding = left-by (decodeChecks m bs p (length old) (length scratch)) old new scratch left (search (arith) depth 30)
+
+  pub refused-proving : (n : ℕ) → Proven m bs p old new scratch left (Refused n) → LeftBy n old new scratch left
+  refused-proving = left-by (proveChecks m bs p (length old) (length scratch)) old new scratch left (search (arith) depth 30)
+
+  -- a call that no check refuses is done
+  pub encoding-done : Passes (encodeChecks m bs p (length old) (length scratch)) → (u : Outcome) → Encoded m bs p old new scratch left u → u ≡ Done
+  encoding-done = done (encodeChecks m bs p (length old) (length scratch)) old new scratch left _
+
+  pub decoding-done : Passes (decodeChecks m bs p (length old) (length scratch)) → (u : Outcome) → Decoded m bs p old new scratch left u → u ≡ Done
+  decoding-done = done (decodeChecks m bs p (length old) (length scratch)) old new scratch left _
+
+  pub proving-done : Passes (proveChecks m bs p (length old) (length scratch)) → (u : Outcome) → Proven m bs p old new scratch left u → u ≡ Done
+  proving-done = done (proveChecks m bs p (length old) (length scratch)) old new scratch left _
+
+-- ---- the other calls
+
+-- the checker, which writes nothing
+pub refused-check : (m : ℕ) (bs w π : List ℕ) (coin n : ℕ) → checker.Told m bs w π coin (verdict.Refused n) → (0 < n) × (n ≤ 9)
+refused-check m bs w π coin n (l, a) = (l, answer-within (checker.checkerChecks m bs w π coin) (search (arith) depth 30) a)
+
+-- the writer of stored files
+pub refused-writing : (m : ℕ) (bs w π old new : List ℕ) (n : ℕ) → Wrote m bs w π old new (written.Refused n) → (0 < n) × (n ≤ 9) × (new ≡ old)
+refused-writing m bs w π old new n ((l, a), e) = (l, answer-within (writerChecks m bs w π (length old)) (search (arith) depth 30) a, e)
+
+-- the maker of deliveries
+pub refused-making : (t old new : List ℕ) (n : ℕ) → making.Told t old new (made.Refused n) → (0 < n) × (n ≤ 12) × (new ≡ old)
+refused-making t old new n ((l, a), e) = (l, answer-within (making.tableChecks t (length old)) (search (arith) depth 40) a, e)
