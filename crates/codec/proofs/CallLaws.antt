@@ -18,7 +18,8 @@ use Rattle.space.specs.declared.Setting.{Setting}
 use Rattle.transform.proofs.BlockLaws.{eight}
 use Rattle.codec.specs.declared.Outcome.the-variants.{Done, Refused}
 use Rattle.codec.specs.Calls.{outcomeOf, Told, lengthChecks, Early, symbolChecks, wordChecks, CoefficientsOf}
-use Rattle.codec.specs.Checks.{earlyChecks, lengths-passed}
+use Rattle.codec.specs.Checks.{earlyChecks}
+use Rattle.codec.specs.Lengths.{lengths-passed}
 use Rattle.codec.specs.Early as early
 use Rattle.codec.specs.Words.{Usable, Lengths, EncodedWith, DecodedWith}
 use Rattle.codec.proofs.WordLaws.{usable}
@@ -53,7 +54,7 @@ module _ (m : ℕ) (bs : List ℕ) (a b s : ℕ) where
       early-ready = early.early-ready m bs cs c set r e z
 
       pub early-lengths : (a ≡ 2 ^ (length bs - 3)) × (b ≡ 2 ^ length bs) × (4 * 2 ^ length bs ≤ s)
-      early-lengths = lengths-passed (length bs) a b s (early.early-rest m bs cs c set r e z)
+      early-lengths = lengths-passed a (2 ^ (length bs - 3)) b (2 ^ length bs) s (4 * 2 ^ length bs) (early.early-rest m bs cs c set r e z)
 
 -- the setting by its own modulus
 pub own-ready : {m : ℕ} {bs : List ℕ} {s : Setting} → Ready m bs s → Ready (s .field .modulus) bs s

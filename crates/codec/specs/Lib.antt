@@ -1,6 +1,7 @@
 -- Encoder and decoder: words from coefficients and back, and the two calls.
 pub mod Early
 pub mod Calls
+pub mod Lengths
 pub mod Checks
 pub mod Words
 pub mod RoundTrip

@@ -20,7 +20,8 @@ use Rattle.space.specs.Sound.{Sound, sound, sound-field, setting-numbered}
 use Rattle.codec.specs.declared.Outcome.{Outcome}
 use Rattle.codec.specs.declared.Outcome.the-variants.{Done, Refused}
 use Rattle.codec.specs.Calls.{lengthChecks, symbolChecks, wordChecks, encodeChecks, decodeChecks, Encoded, Decoded}
-use Rattle.codec.specs.Checks.{earlyChecks, early-numbered, lengths-right, lengths-passed}
+use Rattle.codec.specs.Checks.{earlyChecks, early-numbered}
+use Rattle.codec.specs.Lengths.{lengths-right, lengths-passed}
 
 -- no call that passes its checks is refused
 never-refused : {cs : Checks} {n : ℕ} {old new scratch left : List ℕ} → Passes cs → RefusedWith cs n old new scratch left → ⊥
@@ -36,13 +37,13 @@ module _ (m : ℕ) (bs : List ℕ) where
   past a b s ds p =
       let both = passes-each (earlyChecks m bs a b s) ds (early-numbered m bs a b s) p in
       let first = passes-each (settingChecks m bs) (lengthChecks (length bs) a b s) (setting-numbered m bs) (both .0) in
-      (record { setting = first .0; lengths = lengths-passed (length bs) a b s (first .1) }, both .1)
+      (record { setting = first .0; lengths = lengths-passed a (2 ^ (length bs - 3)) b (2 ^ length bs) s (4 * 2 ^ length bs) (first .1) }, both .1)
 
   passing : (a b s : ℕ) (ds : Checks) → Past a b s → Passes ds → Passes (earlyChecks m bs a b s ++ ds)
   passing a b s ds t p =
       answers-after (earlyChecks m bs a b s) ds 0 (early-numbered m bs a b s)
       (answers-after (settingChecks m bs) (lengthChecks (length bs) a b s) 0 (setting-numbered m bs) (t .setting)
-      (lengths-right (length bs) a b s (t .lengths .0) (t .lengths .1) (t .lengths .2)))
+      (lengths-right a (2 ^ (length bs - 3)) b (2 ^ length bs) s (4 * 2 ^ length bs) (t .lengths .0) (t .lengths .1) (t .lengths .2)))
       p
 
   symbols-passed : (xs : List ℕ) → Passes (symbolChecks m xs) → Below (2 ^ degree m) xs

@@ -2,7 +2,7 @@
 use mathlib.Core.Path.{_≡_, refl, ap, _∙_}
 use mathlib.Core.Logic.{_⊎_, inl, inr}
 use mathlib.Core.List.{List, _++_}
-use Prim.Native.Nat.{ℕ, _*_, _^_, _≤_}
+use Prim.Native.Nat.{ℕ, _-_, _*_, _^_, _≤_}
 use native.Mathlib.Omega.{arith}
 use lib.ListN.{length}
 use Rattle.lists.specs.All.{All}
@@ -20,6 +20,7 @@ use Rattle.proximity.specs.Dim.{dim, S}
 use Rattle.proximity.specs.Layout.{length-proof}
 use Rattle.codec.specs.Calls.{symbolChecks, wordChecks, encodeChecks, Encoded}
 use Rattle.codec.specs.Checks.{earlyChecks, early-numbered}
+use Rattle.codec.specs.Lengths.{lengths-right}
 use Rattle.codec.specs.RoundTrip.{word-passes}
 use Rattle.codec.specs.declared.Outcome.{Outcome}
 use Rattle.codec.specs.declared.Outcome.the-variants.{Done, Refused}
@@ -51,7 +52,7 @@ module _ (m : ℕ) (bs : List ℕ) (s : Sound m bs) where
       fine =
           answers-after (earlyChecks m bs (length xs) (length old) (length scratch)) (symbolChecks m xs) 0 (early-numbered m bs (length xs) (length old) (length scratch))
           (answers-after (settingChecks m bs) (Rattle.codec.specs.Calls.lengthChecks k (length xs) (length old) (length scratch)) 0 (setting-numbered m bs) (sound-passes m bs s)
-          (Rattle.codec.specs.Checks.lengths-right k (length xs) (length old) (length scratch) (c .count) lo ls))
+          (lengths-right (length xs) (2 ^ (k - 3)) (length old) (2 ^ k) (length scratch) (4 * 2 ^ k) (c .count) lo ls))
           (inr ((λ f. f (c .symbols)), refl))
 
       by : (r : Outcome) → Encoded m bs xs old new scratch left r → new ≡ wordOf (symbols m) k bs xs
@@ -69,7 +70,7 @@ module _ (m : ℕ) (bs : List ℕ) (s : Sound m bs) where
           answers-after (settingChecks m bs ++ Rattle.prover.specs.Calls.lengthChecks k (length w) (length old) (length scratch)) (wordChecks m bs w) 0
           (Rattle.prover.proofs.CallLaws.early-numbered m bs (length w) (length old) (length scratch))
           (answers-after (settingChecks m bs) (Rattle.prover.specs.Calls.lengthChecks k (length w) (length old) (length scratch)) 0 (setting-numbered m bs) (sound-passes m bs s)
-          (Rattle.prover.proofs.CallLaws.lengths-right k (length w) (length old) (length scratch) (length-word P w e) lo ls))
+          (lengths-right (length w) (2 ^ k) (length old) (S k) (length scratch) (4 * 2 ^ k) (length-word P w e) lo ls))
           (word-passes m bs s P w lp sp e)
 
       by : (r : Outcome) → Proven m bs w old new scratch left r → ProofOf m bs w new

@@ -1,8 +1,7 @@
 -- The change of basis by halves: `Monomials` of 2^m coefficients from those of its halves. Assumes nothing.
 use mathlib.Core.Path.{_≡_, refl, sym, ap, ap₂, _∙_}
 use mathlib.Core.List.{List, [], _∷_, _++_}
-use Prim.Native.Nat.{ℕ, zero, suc, _+_, _-_, _/_, _^_, _≤_, _<_}
-use native.Mathlib.Nat.{two-pow-succ}
+use Prim.Native.Nat.{ℕ, suc, _+_, _-_, _/_, _^_, _≤_, _<_}
 use native.Mathlib.Omega.{arith}
 use lib.ListN.{length, getD, length-append}
 use lib.Seq.{take-at, drop-at}
@@ -12,6 +11,7 @@ use Rattle.field.specs.Laws.{Ops, IsField, ⊗-0, ⊕-0}
 use Rattle.field.specs.Symbols.{symbols, symbols-field}
 use Rattle.field.specs.declared.Field.{Field}
 use Rattle.poly.specs.Poly.{eval}
+use Rattle.transform.proofs.Halves.{half-pow}
 use Rattle.novel.specs.Convert.{evalBy, valueBy, Tabled, Expanded, Monomials}
 
 pub tabled-fewer : {f : Field} {none table : List ℕ} {m : ℕ} (n : ℕ) → n ≤ m → Tabled f none table m → Tabled f none table n
@@ -20,10 +20,8 @@ tabled-fewer n h t =
 
 -- half of 2^m
 pub half-power : (m n : ℕ) → (m ≡ 0 → ⊥) → n ≡ 2 ^ m → (n / 2 ≡ 2 ^ (m - 1)) × (n ≡ 2 ^ (m - 1) + 2 ^ (m - 1))
-half-power zero n h e = absurd (h refl)
-half-power (suc m) n h e =
-    let same : suc m - 1 ≡ m = omega arith in
-    let two : n ≡ 2 ^ (suc m - 1) + 2 ^ (suc m - 1) = e ∙ two-pow-succ m ∙ ap (λ (k : ℕ). 2 ^ k + 2 ^ k) (sym same) in
+half-power m n h e =
+    let two : n ≡ 2 ^ (m - 1) + 2 ^ (m - 1) = e ∙ half-pow m (omega arith) in
     (omega arith, two)
 
 module _ (q : ℕ) (irr : Irreducible q) (table : List ℕ) where

@@ -1,14 +1,13 @@
 -- The checks of the call, and what each exit leaves. Assumes nothing.
 use mathlib.Core.Path.{_≡_, refl, sym, ap, _∙_, subst}
-use mathlib.Core.Logic.{_⊎_, inl, inr, _≢_}
+use mathlib.Core.Logic.{inl, inr, _≢_}
 use mathlib.Core.Bool.{Bool, true, false}
 use mathlib.Core.List.{List, _++_}
-use Prim.Native.Nat.{ℕ, _*_, _^_, _≤_, _<_}
-use native.Mathlib.Decide.{ℕ-discrete}
+use Prim.Native.Nat.{ℕ, _*_, _^_, _≤_}
 use native.Mathlib.Omega.{arith}
 use lib.ListN.{length}
 use Rattle.lists.specs.All.{Below}
-use Rattle.lists.specs.Answers.{Checks, Answers, Passes, Numbered}
+use Rattle.lists.specs.Answers.{Checks, Passes, Numbered}
 use Rattle.lists.specs.Calls.{zeros, Accepted, RefusedWith, Within, refused-late, accepted}
 use Rattle.lists.specs.Decides.{decides-true, decides-false}
 use Rattle.field.specs.Binary.{degree}
@@ -26,34 +25,6 @@ use Rattle.codec.proofs.CallLaws.{own-ready}
 use Rattle.codec.proofs.WordLaws.{ready-basis}
 use Rattle.prover.specs.Prover.{Proving, Proved}
 use Rattle.prover.specs.Calls.{lengthChecks, ProofOf, InSetting, ProvenWith}
-
--- ---- checks 6 and 7
-
-module _ (k a b s : ℕ) where
-  neither : a ≡ 2 ^ k → b ≡ S k → (a ≢ 2 ^ k) ⊎ (b ≢ S k) → ⊥
-  neither ea eb (inl h) = h ea
-  neither ea eb (inr h) = h eb
-
-  pub six-word : a ≢ 2 ^ k → Answers (lengthChecks k a b s) 6
-  six-word h = inl (inl h, refl)
-
-  pub six-proof : b ≢ S k → Answers (lengthChecks k a b s) 6
-  six-proof h = inl (inr h, refl)
-
-  pub seven : a ≡ 2 ^ k → b ≡ S k → s < 4 * 2 ^ k → Answers (lengthChecks k a b s) 7
-  seven ea eb h = inr (neither ea eb, inl (h, refl))
-
-  pub lengths-right : a ≡ 2 ^ k → b ≡ S k → 4 * 2 ^ k ≤ s → Passes (lengthChecks k a b s)
-  lengths-right ea eb h = inr (neither ea eb, inr ((λ l. omega arith), refl))
-
-  pub lengths-passed : Passes (lengthChecks k a b s) → (a ≡ 2 ^ k) × (b ≡ S k) × (4 * 2 ^ k ≤ s)
-  lengths-passed (inl p) = absurd (omega arith)
-  lengths-passed (inr (n, inl p)) = absurd (omega arith)
-  lengths-passed (inr (n, inr p)) = (same (ℕ-discrete a (2 ^ k)) (λ f. n (inl f)), same (ℕ-discrete b (S k)) (λ f. n (inr f)), omega (arith, p .0))
-    where
-      same : {x y : ℕ} → Dec (x ≡ y) → (x ≢ y → ⊥) → x ≡ y
-      same (yes e) f = e
-      same (no e) f = absurd (f e)
 
 module _ (m : ℕ) (bs : List ℕ) (a b s : ℕ) where
   pub early-within : Within 7 (settingChecks m bs ++ lengthChecks (length bs) a b s)

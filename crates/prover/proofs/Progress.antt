@@ -207,16 +207,16 @@ module _ (f : Field) (k : ℕ) (t w : List ℕ) (p : Proving f k t w) (s : 7 ≤
         small (Row r) = omega (arith, p .high)
         small (Column a) = omega (arith, p .high)
 
-    pub inner-room : size ≤ length inner
+    inner-room : size ≤ length inner
     inner-room = let few : 2 ^ m ≤ 2 ^ 9 = pow-mono {j = 9} (dimension-falls .1) in omega (arith, ei .0)
 
-    pub stretch-fits : (at ≤ end) × (end ≤ length π)
+    stretch-fits : (at ≤ end) × (end ≤ length π)
     stretch-fits = (omega arith, omega (arith, line-proof-fits k s line line-in-range, g .long))
 
     word-is : take size inner ≡ lineWord k w π line
     word-is = ap (λ (x : ℕ). take x inner) (ez ∙ ap (λ (d : ℕ). 2 ^ d) em) ∙ ei .1
 
-    pub inner-proving : Proving f m t′ (take size inner)
+    inner-proving : Proving f m t′ (take size inner)
     inner-proving =
         subst (λ (x : List ℕ). Proving f m t′ x) (sym word-is)
         (subst (λ (d : ℕ). Proving f d t′ (lineWord k w π line)) (sym em)
@@ -231,10 +231,14 @@ module _ (f : Field) (k : ℕ) (t w : List ℕ) (p : Proving f k t w) (s : 7 ≤
           code = line-code (f .modulus) (p .irreducible) k s (p .high) t w i π g (p .basis) (p .right) (p .table) (p .code) line line-in-range;
         }))
 
-    pub inner-length : length (take (end - at) (drop at π)) ≡ S m
+    inner-length : length (take (end - at) (drop at π)) ≡ S m
     inner-length =
         let count : end - at ≡ S (lineDim k line) = omega arith in
         length-take-le (end - at) (drop at π) (omega (arith, length-drop at π, stretch-fits .1)) ∙ count ∙ ap S (sym em)
+
+    -- all of these at once
+    pub line-facts : (size ≤ length inner) × ((at ≤ end) × (end ≤ length π)) × Proving f m t′ (take size inner) × (length (take (end - at) (drop at π)) ≡ S m)
+    line-facts = (inner-room, stretch-fits, inner-proving, inner-length)
 
     pub progress-turn : (ys : List ℕ) → length ys ≡ length (take (end - at) (drop at π)) → Proved (f .modulus) m t′ (take size inner) ys
         → Progress (f .modulus) k t w (i + 1) (putMid at (end - at) π ys)

@@ -6,11 +6,11 @@ use native.Mathlib.Omega.{arith}
 use lib.ListN.{length, getD, take, drop}
 use lib.Seq.{drop-drop}
 use Rattle.lists.specs.All.{Below, All-at}
-use Rattle.lists.specs.Tables.{part, part-fits, length-tab, table-at}
+use Rattle.lists.specs.Tables.{tab, part, part-fits, length-tab, table-at}
 use Rattle.field.specs.Laws.{Ops, IsField}
 use Rattle.poly.specs.Codeword.{Basis}
-use Rattle.proximity.specs.Dim.{rowDim, colDim, dim, S}
-use Rattle.proximity.specs.Tree.{S-node, lengths, tables-right}
+use Rattle.proximity.specs.Dim.{rowDim, colDim, dim, S, R}
+use Rattle.proximity.specs.Tree.{S-node, lengths, bits, tables-right}
 use Rattle.proximity.specs.Proof.{row}
 use Rattle.proximity.specs.declared.Line.{Line}
 use Rattle.proximity.specs.declared.Line.the-variants.{Row, Column}
@@ -34,13 +34,21 @@ pub line-at-least : (k : ℕ) → 7 ≤ k → (l : Line) → 3 ≤ lineDim k l
 line-at-least k s (Row r) = omega arith
 line-at-least k s (Column a) = omega arith
 
--- S is small
+-- S and R are small
+small-at : (f : ℕ → ℕ) (t : List ℕ) (n : ℕ) → t ≡ tab 15 f → 0 < n → Below n t → (k : ℕ) → k ≤ 14 → f k < n
+small-at f t n e p h k l = subst (λ (x : ℕ). x < n) (table-at f t 15 e k (omega arith)) (All-at (λ (x : ℕ). x < n) t 0 h p k)
+
 lengths-small : Below 67551233 lengths
 lengths-small = omega arith
 
 pub S-small : (k : ℕ) → k ≤ 14 → S k < 67551233
-S-small k h =
-    subst (λ (x : ℕ). x < 67551233) (table-at S lengths 15 (tables-right .0) k (omega arith)) (All-at (λ (x : ℕ). x < 67551233) lengths 0 lengths-small (omega arith) k)
+S-small = small-at S lengths 67551233 (tables-right .0) (omega arith) lengths-small
+
+bits-small : Below 26 bits
+bits-small = omega arith
+
+pub R-small : (k : ℕ) → k ≤ 14 → R k < 26
+R-small = small-at R bits 26 (tables-right .1) (omega arith) bits-small
 
 module _ (k : ℕ) (s : 7 ≤ k) where
   -- The proof of a line lies after the stored rows and inside the proof

@@ -7,7 +7,7 @@ use native.Mathlib.Omega.{arith}
 use lib.ListN.{length}
 use Rattle.lists.specs.All.{Below}
 use Rattle.lists.specs.Answers.{Checks, Passes, Refuses, Numbered, answers-after, refused-first, numbered-append}
-use Rattle.field.specs.Binary.{degree, Irreducible}
+use Rattle.field.specs.Binary.{degree}
 use Rattle.field.specs.Laws.{Ops}
 use Rattle.field.specs.Symbols.{symbols}
 use Rattle.poly.specs.Codeword.{Basis}
@@ -16,7 +16,7 @@ use Rattle.space.specs.Ready.{Ready, ready}
 use Rattle.space.specs.Sound.{sound-passes}
 use Rattle.proximity.specs.Dim.{S, R}
 use Rattle.verifier.specs.Checker.{Answered}
-use Rattle.verifier.specs.Parts.{InSpace}
+use Rattle.verifier.specs.Parts.{InSpace, ready-space}
 use Rattle.verifier.specs.declared.Verdict.{Verdict}
 use Rattle.verifier.specs.declared.Verdict.the-variants.{Accept, Reject, Refused}
 use Rattle.stored.specs.Accepted.{Accepted, accepted, prefix-numbered, Places, read-places, told-accepted}
@@ -89,15 +89,7 @@ module _ (f : List ℕ) (r : Reading) (t : Told (fileChecks f) f r) (z : r .refu
 
   pub read-space : InSpace (r .setting .field) (r .setting .space .k) (r .setting .space .images)
   read-space =
-      record {
-        sized = read-ready .sized;
-        irreducible = subst Irreducible (sym modulus) (read-ready .sound .modulus .irreducible);
-        low = omega (arith, read-ready .dimension, read-ready .sound .low);
-        high = omega (arith, read-ready .dimension, read-ready .sound .high);
-        basis = basisIn f;
-        right = read-basis;
-        table = read-images;
-      }
+      subst (λ (k : ℕ). InSpace (r .setting .field) k (r .setting .space .images)) (sym (read-ready .dimension)) (ready-space read-ready)
 
   pub read-laid : Laid f (r .setting .space .k) (r .word) (r .proof)
   read-laid =

@@ -28,7 +28,7 @@ use Rattle.codec.specs.Calls.{wordChecks}
 use Rattle.codec.specs.RoundTrip.{word-passes}
 use Rattle.codec.specs.declared.Outcome.the-variants.{Done}
 use Rattle.prover.specs.Calls.{lengthChecks, Proven}
-use Rattle.prover.proofs.CallLaws.{lengths-right}
+use Rattle.codec.specs.Lengths.{lengths-right}
 use Rattle.terms.specs.Answer.{answered-one, same-answer}
 
 -- ---- the checker
@@ -74,7 +74,7 @@ module _ (m : ℕ) (bs : List ℕ) (s : Sound m bs) (w π : List ℕ) (lw : leng
   accepted-exactly-written old scratch lo ls = ((λ f. written (accepted-exactly .0 f)), λ p. accepted-exactly .1 (p .right))
     where
       lengths : Passes (lengthChecks (length bs) (length w) (length old) (length scratch))
-      lengths = lengths-right (length bs) (length w) (length old) (length scratch) lw lo ls
+      lengths = lengths-right (length w) (2 ^ length bs) (length old) (S (length bs)) (length scratch) (4 * 2 ^ length bs) lw lo ls
 
       written : PairOfAPolynomial → WrittenByTheProver old scratch
       written (P, H) =

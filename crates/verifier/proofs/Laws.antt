@@ -7,11 +7,9 @@ use native.Mathlib.Omega.{arith}
 use lib.ListN.{length, take, drop, length-drop, take-append-drop}
 use lib.Pow.{pow-mono}
 use lib.Seq.{take-at, drop-at, take-append-le, drop-append-le, drop-drop, length-take-le, take-take}
-use Rattle.lists.specs.All.{Below, All-at, drop-take}
+use Rattle.lists.specs.All.{drop-take}
 use Rattle.lists.specs.Overwrite.{drop-append-at}
-use Rattle.lists.specs.Tables.{table-at, part, part-fits, length-insert}
-use Rattle.proximity.specs.Dim.{R}
-use Rattle.proximity.specs.Tree.{bits, tables-right}
+use Rattle.lists.specs.Tables.{part, part-fits, length-insert}
 use Rattle.verifier.specs.Parts.{InParts, joined, noSymbols}
 
 module _ (near far : List ℕ) (slot : ℕ) (p : InParts near far slot) where
@@ -88,10 +86,3 @@ aligned n m r hm hn =
 pub length-no-symbols : length noSymbols ≡ 64
 unfolding noSymbols
 length-no-symbols = refl
-
--- a coin has few bits
-bits-small : Below 26 bits
-bits-small = omega arith
-
-pub R-small : (k : ℕ) → k ≤ 14 → R k < 26
-R-small k h = subst (λ (x : ℕ). x < 26) (table-at R bits 15 (tables-right .1) k (omega arith)) (All-at (λ (x : ℕ). x < 26) bits 0 bits-small (omega arith) k)

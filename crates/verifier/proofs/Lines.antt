@@ -39,13 +39,13 @@ module _ (f : Field) (k : ℕ) (t : List ℕ) (near far : List ℕ) (s : ℕ) (�
     taken : lineOf k coin ≡ line
     taken = sym el ∙ e
 
-    pub in-range : InRange k line
+    in-range : InRange k line
     in-range = subst (InRange k) taken (line-in-range k coin)
 
-    pub dimension : m ≡ lineDim k line
+    dimension : m ≡ lineDim k line
     dimension = em ∙ ap (lineDim k) e
 
-    pub dimension-falls : m < k
+    dimension-falls : m < k
     dimension-falls = subst (λ (n : ℕ). n < k) (sym dimension) (line-falls k h line)
 
     right-table : LineTable k t line t′
@@ -54,10 +54,10 @@ module _ (f : Field) (k : ℕ) (t : List ℕ) (near far : List ℕ) (s : ℕ) (�
     inner-proof : ρ ≡ lineProof k π line
     inner-proof = eρ ∙ ap (lineProof k π) e
 
-    pub inner-long : length ρ ≡ S m
+    inner-long : length ρ ≡ S m
     inner-long = ap length inner-proof ∙ length-line-proof k h π (L .proof) line in-range ∙ ap S (sym dimension)
 
-    pub inner-space : InSpace f m t′
+    inner-space : InSpace f m t′
     inner-space =
         subst (λ (n : ℕ). InSpace f n t′) (sym dimension)
         (record {
@@ -71,7 +71,7 @@ module _ (f : Field) (k : ℕ) (t : List ℕ) (near far : List ℕ) (s : ℕ) (�
         })
 
     -- the answer on the line's word and proof is that on the whole
-    pub outer-claim : (v : Verdict) (u : List ℕ) → u ≡ lineWord k w π line → Claim f m t′ u ρ rest v → Claim f k t w π coin v
+    outer-claim : (v : Verdict) (u : List ℕ) → u ≡ lineWord k w π line → Claim f m t′ u ρ rest v → Claim f k t w π coin v
     outer-claim v u eu claim b B I =
         on-line k h w π word-long (L .proof) coin line taken (symbols (f .modulus)) b v
         (same (inner (lineBasis (symbols (f .modulus)) k b line) (line-basis k h (symbols-field (f .modulus) (S₀ .irreducible)) b B line in-range)
@@ -89,3 +89,8 @@ module _ (f : Field) (k : ℕ) (t : List ℕ) (near far : List ℕ) (s : ℕ) (�
             subst (λ (n : ℕ). OnCoin (symbols (f .modulus)) (lineDim k line) (lineBasis (symbols (f .modulus)) k b line) (lineWord k w π line) (lineProof k π line) n v) er
             (subst (λ (x : List ℕ). OnCoin (symbols (f .modulus)) (lineDim k line) (lineBasis (symbols (f .modulus)) k b line) (lineWord k w π line) x rest v) inner-proof
             (subst (λ (x : List ℕ). OnCoin (symbols (f .modulus)) (lineDim k line) (lineBasis (symbols (f .modulus)) k b line) x ρ rest v) eu a))
+
+    -- all of these at once
+    pub line-facts : InRange k line × (m ≡ lineDim k line) × (m < k) × (length ρ ≡ S m) × InSpace f m t′
+        × ((v : Verdict) (u : List ℕ) → u ≡ lineWord k w π line → Claim f m t′ u ρ rest v → Claim f k t w π coin v)
+    line-facts = (in-range, dimension, dimension-falls, inner-long, inner-space, outer-claim)

@@ -1,18 +1,20 @@
 -- `prover::prove` meets its contract: a case for each of its two ways out. Assumes nothing.
 use mathlib.Core.Path.{_≡_, sym, ap, subst, _∙_}
 use mathlib.Core.List.{List, _++_}
-use Prim.Native.Nat.{ℕ}
+use Prim.Native.Nat.{ℕ, _*_, _^_}
 use lib.ListN.{length}
 use borrow.Author.Needs.{needs}
 use Rattle.lists.specs.Answers.{Checks, Passes, Numbered}
 use Rattle.lists.specs.Calls.{zeros}
 use Rattle.space.specs.Ready.{Ready}
 use Rattle.space.specs.Setting.{settingChecks}
+use Rattle.proximity.specs.Dim.{S}
 use Rattle.codec.specs.Calls.{wordChecks}
+use Rattle.codec.specs.Lengths.{lengths-passed}
 use Rattle.codec.specs.Early.{dimensions, early-passes, early-ready, early-rest, early-refused}
 use Rattle.codec.proofs.CallLaws.{told-of}
 use Rattle.prover.specs.Calls.{lengthChecks, Proven}
-use Rattle.prover.proofs.CallLaws.{early-within, early-numbered, lengths-passed, in-setting, prove-done, prove-refused}
+use Rattle.prover.proofs.CallLaws.{early-within, early-numbered, in-setting, prove-done, prove-refused}
 use Rattle.prover.proofs.prove.Statement.{statement}
 use Rattle.prover.proofs.prove.Tie as tie
 
@@ -80,7 +82,7 @@ prove-with-requires : tie.Need-prove-with-requires
 prove-with-requires c κs =
     let then = c .before .before in
     let here = at then in
-    in-setting (word here) (proof here) (scratch here) (set then) (lengths-passed (length (bs here)) (length (word here)) (length (proof here)) (length (scratch here)) (right-lengths then))
+    in-setting (word here) (proof here) (scratch here) (set then) (lengths-passed (length (word here)) (2 ^ length (bs here)) (length (proof here)) (S (length (bs here))) (length (scratch here)) (4 * 2 ^ length (bs here)) (right-lengths then))
 
 finish-requires : tie.Need-finish-requires
 finish-requires c κs = search needs

@@ -8,7 +8,7 @@ use Rattle.lists.specs.Decides.{decides-true, decides-false}
 use Rattle.field.specs.Checks.{not-less}
 use Rattle.field.specs.Ranges.{high-bits-test}
 use Rattle.proximity.specs.Dim.{R}
-use Rattle.verifier.proofs.Laws.{R-small}
+use Rattle.proximity.specs.LineLaws.{R-small}
 use Rattle.stored.specs.CheckLaws.{refused-file, refused-coin, read-passes, read-dimension, read-basis, read-images, read-space, read-laid, read-below, read-answer}
 use Rattle.stored.specs.File.{dimIn, basisIn}
 use Rattle.stored.specs.declared.Reading.{Reading}

@@ -1,19 +1,15 @@
 -- `verifier::check` meets its contract. Assumes nothing.
-use mathlib.Core.Path.{_≡_, sym, subst}
+use mathlib.Core.Path.{_≡_, subst}
 use mathlib.Core.List.{List}
 use Prim.Native.Nat.{ℕ}
 use native.Mathlib.Omega.{arith}
 use lib.ListN.{length}
 use Rattle.lists.specs.Answers.{Answers, Passes}
-use Rattle.field.specs.Binary.{Irreducible}
 use Rattle.field.specs.Symbols.{symbols}
-use Rattle.poly.specs.Codeword.{Basis}
-use Rattle.space.specs.Images.{Images}
 use Rattle.space.specs.Ready.{Ready, ready, settled-answer}
 use Rattle.space.specs.Setting.{settingChecks}
-use Rattle.space.specs.declared.Setting.{Setting}
 use Rattle.verifier.specs.Checker.{deliveryChecks, OnCoin}
-use Rattle.verifier.specs.Parts.{InSpace}
+use Rattle.verifier.specs.Parts.{ready-space}
 use Rattle.verifier.specs.Verdicts.{Right, right-of, told-setting, told-delivery, told-coin}
 use borrow.Author.Needs.{needs}
 use Rattle.verifier.proofs.check.Statement.{statement}
@@ -53,20 +49,6 @@ returns-2 c =
     let e = c .before .before in
     let a = start e .args in
     told-delivery (a .modulus) (a .basis .now) (a .word .now) (a .proof .now) (a .coin) (passes e) (c .before .delivery-refusal .result) (omega (arith, c .if2 .taken)) (c .before .delivery-refusal .ensures)
-
--- the space of a setting that passed
-ready-space : {m : ℕ} {bs : List ℕ} {s : Setting} → Ready m bs s → InSpace (s .field) (length bs) (s .space .images)
-ready-space {m} {bs} {s} r =
-    let e = sym (r .modulus) in
-    record {
-      sized = r .sized;
-      irreducible = subst Irreducible e (r .sound .modulus .irreducible);
-      low = r .sound .low;
-      high = r .sound .high;
-      basis = bs;
-      right = subst (λ (q : ℕ). Basis (symbols q) (length bs) bs) e (r .sound .basis);
-      table = subst (λ (q : ℕ). Images (symbols q) bs (s .space .images)) e (r .images);
-    }
 
 -- the lengths and the coin are right
 module _ (c : tie.Else2) where

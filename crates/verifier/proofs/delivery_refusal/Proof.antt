@@ -6,7 +6,8 @@ use native.Mathlib.Nat.{div-eq-of-lt, le-div-iff-mul-le}
 use native.Mathlib.Omega.{arith}
 use lib.Pow.{pow-pos}
 use Rattle.proximity.specs.Dim.{S, R}
-use Rattle.verifier.proofs.Laws.{one-shifted, R-small}
+use Rattle.proximity.specs.LineLaws.{R-small}
+use Rattle.verifier.proofs.Laws.{one-shifted}
 use borrow.Author.Needs.{needs}
 use Rattle.verifier.proofs.delivery_refusal.Statement.{statement}
 use Rattle.verifier.proofs.delivery_refusal.Tie as tie

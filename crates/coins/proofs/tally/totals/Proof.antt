@@ -10,7 +10,8 @@ use Rattle.lists.specs.Answers.{Passes}
 use Rattle.lists.specs.Tables.{length-tab}
 use Rattle.field.specs.Symbols.{symbols}
 use Rattle.proximity.specs.Dim.{S, R}
-use Rattle.verifier.proofs.Laws.{R-small, one-shifted}
+use Rattle.proximity.specs.LineLaws.{R-small}
+use Rattle.verifier.proofs.Laws.{one-shifted}
 use Rattle.verifier.specs.Checker.{readsOf, OnCoin}
 use Rattle.stored.specs.Bytes.{twoAt, numbersAt}
 use Rattle.stored.specs.Check.{AnsweredFile}

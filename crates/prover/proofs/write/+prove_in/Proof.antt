@@ -3,15 +3,16 @@
 use mathlib.Core.Path.{_≡_, refl, sym, _∙_, subst}
 use Prim.Native.Nat.{ℕ, _-_, _*_, _%_, _^_, _≤_, _<_}
 use native.Mathlib.Omega.{arith}
-use lib.ListN.{length}
+use lib.ListN.{length, take, drop}
 use lib.Pow.{pow-mono}
 use lib.Seq.{length-take-le}
+use Rattle.proximity.specs.Dim.{S}
 use Rattle.proximity.specs.Tree.{S-node}
 use Rattle.proximity.specs.ByLine.{InRange}
 use Rattle.proximity.specs.LineLaws.{S-small, line-falls}
-use Rattle.prover.specs.Prover.{Deep}
+use Rattle.prover.specs.Prover.{Deep, Proving}
 use Rattle.rows.proofs.Passes.{power}
-use Rattle.prover.proofs.Progress.{Progress, in-table, code-word, proved-leaf, progress-none, progress-turn, progress-all, line-in-range, inner-room, stretch-fits, inner-proving, inner-length}
+use Rattle.prover.proofs.Progress.{Progress, in-table, code-word, proved-leaf, progress-none, progress-turn, progress-all, line-in-range, line-facts}
 use borrow.Fn.Kinds.{In}
 use borrow.Fn.PlainCycle.{Measures, is, falls, and}
 use Rattle.prover.proofs.write.prove_in.Reads as prove-in
@@ -179,42 +180,37 @@ module _ (t : ℕ) (c : prove-in-lts.After-line-proof-end (claims t) (prove-in-a
   size-is : size ≡ 2 ^ m
   size-is = power m (omega (arith, low, first .pre .1 .0 .high))
 
-  room : size ≤ length (inner .line-word .result)
-  room =
+  facts : (size ≤ length (inner .line-word .result)) × ((c .before .line-proof-at .result ≤ c .line-proof-end .result) × (c .line-proof-end .result ≤ length (top .loop .proof)))
+      × Proving (first .args .f) m (dimension .before .line-images .result) (take size (inner .line-word .result))
+      × (length (take (c .line-proof-end .result - c .before .line-proof-at .result) (drop (c .before .line-proof-at .result) (top .loop .proof))) ≡ S m)
+  facts =
       let a = first .args in
-      inner-room (a .f) (a .k) (a .images .now) (a .word .now) (first .pre .1 .0) (large t (top .before)) (top .before .deep-lines .result) (top .loop .i) (top .loop .inv .1) (line .before .loop-test .taken)
-      (top .loop .proof) (top .loop .inv .4) (line .line-at .result) (line .line-at .ensures) m size (c .before .line-proof-at .result) (c .line-proof-end .result) (dimension .line-dimension .ensures) size-is
-      (c .before .line-proof-at .ensures) (c .line-proof-end .ensures) (inner .line-word .result) (dimension .before .line-images .result) (inner .line-word .ensures) (dimension .before .line-images .ensures)
-
-  fits : (c .before .line-proof-at .result ≤ c .line-proof-end .result) × (c .line-proof-end .result ≤ length (top .loop .proof))
-  fits =
-      let a = first .args in
-      stretch-fits (a .f) (a .k) (a .images .now) (a .word .now) (first .pre .1 .0) (large t (top .before)) (top .before .deep-lines .result) (top .loop .i) (top .loop .inv .1) (line .before .loop-test .taken)
+      line-facts (a .f) (a .k) (a .images .now) (a .word .now) (first .pre .1 .0) (large t (top .before)) (top .before .deep-lines .result) (top .loop .i) (top .loop .inv .1) (line .before .loop-test .taken)
       (top .loop .proof) (top .loop .inv .4) (line .line-at .result) (line .line-at .ensures) m size (c .before .line-proof-at .result) (c .line-proof-end .result) (dimension .line-dimension .ensures) size-is
       (c .before .line-proof-at .ensures) (c .line-proof-end .ensures) (inner .line-word .result) (dimension .before .line-images .result) (inner .line-word .ensures) (dimension .before .line-images .ensures)
 
 prove-in-array-share-prefix-inner : (t : ℕ) → prove-in-lts.Need-array-share-prefix-inner (claims t) (prove-in-at t) prove-in.Post prove-in-Inv-loop prove-in-μ-loop
-prove-in-array-share-prefix-inner t c = room t (c .before)
+prove-in-array-share-prefix-inner t c = facts t (c .before) .0
 
 prove-in-slice-aggregate-prove-in : (t : ℕ) → prove-in-lts.Need-slice-aggregate-prove-in (claims t) (prove-in-at t) prove-in.Post prove-in-Inv-loop prove-in-μ-loop
 prove-in-slice-aggregate-prove-in t c =
     let e = c .before .before in
-    sym (length-take-le (size t e) (inner t e .line-word .result) (room t e))
+    sym (length-take-le (size t e) (inner t e .line-word .result) (facts t e .0))
 
 prove-in-mul-prove-in : (t : ℕ) → prove-in-lts.Need-mul-prove-in (claims t) (prove-in-at t) prove-in.Post prove-in-Inv-loop prove-in-μ-loop
 prove-in-mul-prove-in t c =
     let e = c .before .before in
     let s = first t e in
-    omega (arith, fits t e .0, fits t e .1, top t e .loop .inv .4 .long, S-small (s .args .k) (omega (arith, s .pre .1 .0 .high)))
+    omega (arith, facts t e .1 .0, facts t e .1 .1, top t e .loop .inv .4 .long, S-small (s .args .k) (omega (arith, s .pre .1 .0 .high)))
 
 prove-in-sub-prove-in : (t : ℕ) → prove-in-lts.Need-sub-prove-in (claims t) (prove-in-at t) prove-in.Post prove-in-Inv-loop prove-in-μ-loop
-prove-in-sub-prove-in t c = fits t (c .before .before) .0
+prove-in-sub-prove-in t c = facts t (c .before .before) .1 .0
 
 prove-in-part-prove-in-start : (t : ℕ) → prove-in-lts.Need-part-prove-in-start (claims t) (prove-in-at t) prove-in.Post prove-in-Inv-loop prove-in-μ-loop
-prove-in-part-prove-in-start t c = fits t (c .before .before) .0
+prove-in-part-prove-in-start t c = facts t (c .before .before) .1 .0
 
 prove-in-part-prove-in-end : (t : ℕ) → prove-in-lts.Need-part-prove-in-end (claims t) (prove-in-at t) prove-in.Post prove-in-Inv-loop prove-in-μ-loop
-prove-in-part-prove-in-end t c = fits t (c .before .before) .1
+prove-in-part-prove-in-end t c = facts t (c .before .before) .1 .1
 
 prove-in-prove-in-requires : (t : ℕ) → prove-in-lts.Need-prove-in-requires (claims t) (prove-in-at t) prove-in.Post prove-in-Inv-loop prove-in-μ-loop
 prove-in-prove-in-requires t c κs =
@@ -224,21 +220,11 @@ prove-in-prove-in-requires t c κs =
     let l = top t e .loop in (
       omega (arith, low t e, s .pre .0),
       (
-        inner-proving (a .f) (a .k) (a .images .now) (a .word .now) (s .pre .1 .0) (large t (top t e .before)) (top t e .before .deep-lines .result) (l .i) (l .inv .1) (line t e .before .loop-test .taken)
-            (l .proof) (l .inv .4) (line t e .line-at .result) (line t e .line-at .ensures) (m t e) (size t e) (e .before .line-proof-at .result) (e .line-proof-end .result) (dimension t e .line-dimension .ensures) (size-is t e)
-            (e .before .line-proof-at .ensures) (e .line-proof-end .ensures) (inner t e .line-word .result) (dimension t e .before .line-images .result) (inner t e .line-word .ensures) (dimension t e .before .line-images .ensures),
-        inner-length (a .f) (a .k) (a .images .now) (a .word .now) (s .pre .1 .0) (large t (top t e .before)) (top t e .before .deep-lines .result) (l .i) (l .inv .1) (line t e .before .loop-test .taken)
-            (l .proof) (l .inv .4) (line t e .line-at .result) (line t e .line-at .ensures) (m t e) (size t e) (e .before .line-proof-at .result) (e .line-proof-end .result) (dimension t e .line-dimension .ensures) (size-is t e)
-            (e .before .line-proof-at .ensures) (e .line-proof-end .ensures) (inner t e .line-word .result) (dimension t e .before .line-images .result) (inner t e .line-word .ensures) (dimension t e .before .line-images .ensures),
+        facts t e .2,
+        facts t e .3,
         omega (arith, pow-mono {i = m t e} {j = a .k} (omega (arith, low t e)), l .inv .3, filled t (top t e .before) .fill-rows .kept .1 .1 .1 .1 .1 .0, s .pre .1 .2),
       ),
     )
-
-prove-in-add-i : (t : ℕ) → prove-in-lts.Need-add-i (claims t) (prove-in-at t) prove-in.Post prove-in-Inv-loop prove-in-μ-loop
-prove-in-add-i t c = omega arith
-
-prove-in-loop-less : (t : ℕ) → prove-in-lts.Need-loop-less (claims t) (prove-in-at t) prove-in.Post prove-in-Inv-loop prove-in-μ-loop
-prove-in-loop-less t c = omega arith
 
 prove-in-loop-again : (t : ℕ) → prove-in-lts.Need-loop-again (claims t) (prove-in-at t) prove-in.Post prove-in-Inv-loop prove-in-μ-loop
 prove-in-loop-again t c =
@@ -297,8 +283,8 @@ pub +prove-in-spec : {M : Type 1} → statement M
     (prove-in-part-prove-in-start t)
     (prove-in-part-prove-in-end t)
     (prove-in-prove-in-requires t)
-    (prove-in-add-i t)
-    (prove-in-loop-less t)
+    (λ c. omega arith)
+    (λ c. omega arith)
     (prove-in-loop-again t)
     (prove-in-same-length t)
     (prove-in-same-length-2 t)

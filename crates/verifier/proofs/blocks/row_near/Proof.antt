@@ -6,10 +6,10 @@ use lib.ListN.{take, drop}
 use lib.Pow.{pow-pos, pow-add, pow-mono}
 use Rattle.lists.specs.Tables.{part-fits}
 use Rattle.proximity.specs.Dim.{half}
-use Rattle.proximity.specs.Subspaces.{pow-rows, pow-eight}
+use Rattle.proximity.specs.Subspaces.{pow-rows}
 use Rattle.verifier.specs.Parts.{joined}
+use Rattle.verifier.proofs.Joins.{eighths}
 use Rattle.verifier.proofs.Laws.{aligned}
--- `verifier::blocks::row_near` meets its contract. Assumes nothing.
 use borrow.Author.Needs.{needs}
 use Rattle.verifier.proofs.blocks.row_near.Statement.{statement}
 use Rattle.verifier.proofs.blocks.row_near.Tie as tie
@@ -34,8 +34,8 @@ module _ (c : tie.After-block-size) where
   r = start .args .r
 
   -- the word's length by blocks of an eighth, and by rows
-  eighths : 2 ^ k ≡ 8 * 2 ^ (k - 3)
-  eighths = let e : k ≡ k - 3 + 3 = omega (arith, start .pre .2) in ap (λ (t : ℕ). 2 ^ t) e ∙ pow-eight (k - 3)
+  cut : 2 ^ k ≡ 8 * 2 ^ (k - 3)
+  cut = eighths k (omega (arith, start .pre .2))
 
   last : r * 2 ^ half k + 2 ^ half k ≤ 2 ^ k
   last = omega (arith, part-fits (2 ^ half k) (start .pre .4), pow-rows k)
@@ -60,7 +60,7 @@ stretch-requires : tie.Need-stretch-requires
 stretch-requires c κs =
     let p = start c .pre in (
       (p .0, p .1, omega (arith, p .3)),
-      (omega (arith, product-is c, last c, eighths c, pow-pos (half (k c))), subst (λ (n : ℕ). r c * n % 2 ^ (k c - 3) + n ≤ 2 ^ (k c - 3)) (sym (c .block-size .ensures)) (one-block c)),
+      (omega (arith, product-is c, last c, cut c, pow-pos (half (k c))), subst (λ (n : ℕ). r c * n % 2 ^ (k c - 3) + n ≤ 2 ^ (k c - 3)) (sym (c .block-size .ensures)) (one-block c)),
     )
 
 returns : tie.Need-returns

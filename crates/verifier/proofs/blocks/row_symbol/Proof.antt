@@ -1,15 +1,15 @@
 -- `verifier::blocks::row_symbol` meets its contract. Assumes nothing.
 use mathlib.Core.Path.{_≡_, sym, ap, _∙_, subst}
 use mathlib.Core.List.{List}
-use Prim.Native.Nat.{ℕ, _+_, _-_, _*_, _^_, _≤_, _<_}
+use Prim.Native.Nat.{ℕ, _-_, _*_, _^_, _≤_, _<_}
 use native.Mathlib.Omega.{arith}
 use lib.ListN.{length, getD}
 use Rattle.proximity.specs.Proof.{row}
 use Rattle.proximity.specs.Reads.{Inside, cell-inside, read-cell}
-use Rattle.proximity.specs.Subspaces.{pow-eight}
 use Rattle.proximity.specs.Tree.{S-node}
 use Rattle.proximity.specs.Verifier.{readAt}
 use Rattle.verifier.specs.Parts.{joined}
+use Rattle.verifier.proofs.Joins.{eighths}
 use Rattle.verifier.proofs.Laws.{length-joined}
 use borrow.Author.Needs.{needs}
 use Rattle.verifier.proofs.blocks.row_symbol.Statement.{statement}
@@ -37,11 +37,11 @@ module _ (c : tie.After-row-place) where
   abbrev word : List ℕ
   word = joined (start .args .near .now) (start .args .far .now) (start .args .slot)
 
-  eighths : 2 ^ k ≡ 8 * 2 ^ (k - 3)
-  eighths = let e : k ≡ k - 3 + 3 = omega (arith, start .pre .0 .2) in ap (λ (t : ℕ). 2 ^ t) e ∙ pow-eight (k - 3)
+  cut : 2 ^ k ≡ 8 * 2 ^ (k - 3)
+  cut = eighths k (omega (arith, start .pre .0 .2))
 
   long : length word ≡ 2 ^ k
-  long = length-joined (start .args .near .now) (start .args .far .now) (start .args .slot) (start .pre .0 .0) ∙ omega (arith, start .pre .0 .1, eighths)
+  long = length-joined (start .args .near .now) (start .args .far .now) (start .args .slot) (start .pre .0 .0) ∙ omega (arith, start .pre .0 .1, cut)
 
   stored : 7 * 2 ^ k ≤ length (start .args .proof .now)
   stored = omega (arith, start .pre .0 .4, S-node k (start .pre .0 .2))
@@ -60,7 +60,7 @@ symbol-requires : tie.Need-symbol-requires
 symbol-requires c κs =
     let p = c .before .before .before in
     let w : c .before .at .given .0 .0 < 2 ^ k p = subst (Inside (2 ^ k p) (length (start p .args .proof .now))) (c .before .at .given .1) (inside p) in
-    (start p .pre .0 .0, start p .pre .0 .1, omega (arith, start p .pre .0 .3), omega (arith, eighths p))
+    (start p .pre .0 .0, start p .pre .0 .1, omega (arith, start p .pre .0 .3), omega (arith, cut p))
 
 enum-known-at-2 : tie.Need-enum-known-at-2
 enum-known-at-2 c = search needs

@@ -1,7 +1,7 @@
 -- `verifier::parts::check_parts` meets its contract. The measure is the dimension. Assumes nothing.
 use mathlib.Core.Path.{_≡_, sym, ap, _∙_, subst}
 use mathlib.Core.List.{List}
-use Prim.Native.Nat.{_-_, _^_, _≤_}
+use Prim.Native.Nat.{ℕ, _-_, _^_, _≤_, _<_}
 use native.Mathlib.Omega.{arith}
 use lib.ListN.{length, take}
 use lib.Pow.{pow-mono}
@@ -21,8 +21,7 @@ use Rattle.verifier.specs.declared.Verdict.{Verdict}
 use Rattle.verifier.specs.Parts.{InSpace, Lent, joined, noSymbols}
 use Rattle.verifier.proofs.Joins.{row-lent, row-joined, plain-lent, plain-joined}
 use Rattle.verifier.proofs.Laws.{length-no-symbols}
-use Rattle.verifier.proofs.Lines.{Claim, word-long, in-range, dimension, dimension-falls, inner-long, inner-space, outer-claim}
-use Prim.Native.Nat.{ℕ, _<_}
+use Rattle.verifier.proofs.Lines.{Claim, word-long, line-facts}
 use borrow.Fn.Kinds.{In}
 use borrow.Fn.PlainCycle.{Measures, is, falls, and}
 use Rattle.verifier.proofs.parts.check_parts.Reads as check-parts
@@ -102,15 +101,6 @@ returns t c = λ b B I.
     (c .short-verdict .ensures b (word t s) B I (long t s)
     (subst (λ (n : ℕ). Transposed 8 n (word t s) noSymbols (c .before .gather .result)) (lent t s .eighth) g))
 
-rest-of-requires : (t : ℕ) → check-parts-lts.Need-rest-of-requires (claims t) (at t) check-parts.Post
-rest-of-requires t c κs = search needs
-
-line-of-requires : (t : ℕ) → check-parts-lts.Need-line-of-requires (claims t) (at t) check-parts.Post
-line-of-requires t c κs = search needs
-
-line-dimension-requires : (t : ℕ) → check-parts-lts.Need-line-dimension-requires (claims t) (at t) check-parts.Post
-line-dimension-requires t c κs = search needs
-
 line-images-requires : (t : ℕ) → check-parts-lts.Need-line-images-requires (claims t) (at t) check-parts.Post
 line-images-requires t c κs =
     let s = c .before .before .before .before .before .before .before in
@@ -120,9 +110,6 @@ line-proof-requires : (t : ℕ) → check-parts-lts.Need-line-proof-requires (cl
 line-proof-requires t c κs =
     let s = c .before .before .before .before .before .before .before .before in
     (omega arith, space t s .high, lent t s .proof, subst (InRange (s .args .k)) (sym (c .before .before .line-of .ensures)) (line-in-range (s .args .k) (s .args .coin)))
-
-enum-known-line : (t : ℕ) → check-parts-lts.Need-enum-known-line (claims t) (at t) check-parts.Post
-enum-known-line t c = search needs
 
 -- after the line's table and proof: the facts that the two arms share
 module _ (t : ℕ) (c : check-parts-lts.After-line-proof (claims t) (at t) check-parts.Post) (line : Line) (e : c .before .before .before .line-of .result ≡ line) where
@@ -135,68 +122,32 @@ module _ (t : ℕ) (c : check-parts-lts.After-line-proof (claims t) (at t) check
   seven : 7 ≤ k
   seven = omega arith
 
-  range : InRange k line
-  range =
-      in-range (start .args .f) k (start .args .images .now) (near t start) (far t start) (start .args .slot) (proof t start) (start .args .coin) (space t start) (lent t start) seven
-      (c .before .before .before .line-of .result) line (c .before .before .before .line-of .ensures) e (c .before .before .line-dimension .result) (c .before .before .line-dimension .ensures)
-      (c .before .line-images .result) (c .before .line-images .ensures) (c .line-proof .result .now) (c .line-proof .ensures) (c .before .before .before .before .rest-of .result)
-      (c .before .before .before .before .rest-of .ensures)
-
-  falls-to : c .before .before .line-dimension .result < k
-  falls-to =
-      dimension-falls (start .args .f) k (start .args .images .now) (near t start) (far t start) (start .args .slot) (proof t start) (start .args .coin) (space t start) (lent t start) seven
+  facts : InRange k line × (c .before .before .line-dimension .result ≡ lineDim k line) × (c .before .before .line-dimension .result < k)
+      × (length (c .line-proof .result .now) ≡ S (c .before .before .line-dimension .result)) × InSpace (start .args .f) (c .before .before .line-dimension .result) (c .before .line-images .result)
+      × ((v : Verdict) (u : List ℕ) → u ≡ lineWord k (word t start) (proof t start) line
+      → Claim (start .args .f) (c .before .before .line-dimension .result) (c .before .line-images .result) u (c .line-proof .result .now) (c .before .before .before .before .rest-of .result) v
+      → Claim (start .args .f) k (start .args .images .now) (word t start) (proof t start) (start .args .coin) v)
+  facts =
+      line-facts (start .args .f) k (start .args .images .now) (near t start) (far t start) (start .args .slot) (proof t start) (start .args .coin) (space t start) (lent t start) seven
       (c .before .before .before .line-of .result) line (c .before .before .before .line-of .ensures) e (c .before .before .line-dimension .result) (c .before .before .line-dimension .ensures)
       (c .before .line-images .result) (c .before .line-images .ensures) (c .line-proof .result .now) (c .line-proof .ensures) (c .before .before .before .before .rest-of .result)
       (c .before .before .before .before .rest-of .ensures)
 
   falls-below : c .before .before .line-dimension .result < t
-  falls-below = omega (arith, falls-to, start .pre .0)
-
-  dim-is : c .before .before .line-dimension .result ≡ lineDim k line
-  dim-is =
-      dimension (start .args .f) k (start .args .images .now) (near t start) (far t start) (start .args .slot) (proof t start) (start .args .coin) (space t start) (lent t start) seven
-      (c .before .before .before .line-of .result) line (c .before .before .before .line-of .ensures) e (c .before .before .line-dimension .result) (c .before .before .line-dimension .ensures)
-      (c .before .line-images .result) (c .before .line-images .ensures) (c .line-proof .result .now) (c .line-proof .ensures) (c .before .before .before .before .rest-of .result)
-      (c .before .before .before .before .rest-of .ensures)
-
-  proof-long : length (c .line-proof .result .now) ≡ S (c .before .before .line-dimension .result)
-  proof-long =
-      inner-long (start .args .f) k (start .args .images .now) (near t start) (far t start) (start .args .slot) (proof t start) (start .args .coin) (space t start) (lent t start) seven
-      (c .before .before .before .line-of .result) line (c .before .before .before .line-of .ensures) e (c .before .before .line-dimension .result) (c .before .before .line-dimension .ensures)
-      (c .before .line-images .result) (c .before .line-images .ensures) (c .line-proof .result .now) (c .line-proof .ensures) (c .before .before .before .before .rest-of .result)
-      (c .before .before .before .before .rest-of .ensures)
-
-  whole-claim : (v : Verdict) (u : List ℕ) → u ≡ lineWord k (word t start) (proof t start) line
-      → Claim (start .args .f) (c .before .before .line-dimension .result) (c .before .line-images .result) u (c .line-proof .result .now) (c .before .before .before .before .rest-of .result) v
-      → Claim (start .args .f) k (start .args .images .now) (word t start) (proof t start) (start .args .coin) v
-  whole-claim =
-      outer-claim (start .args .f) k (start .args .images .now) (near t start) (far t start) (start .args .slot) (proof t start) (start .args .coin) (space t start) (lent t start) seven
-      (c .before .before .before .line-of .result) line (c .before .before .before .line-of .ensures) e (c .before .before .line-dimension .result) (c .before .before .line-dimension .ensures)
-      (c .before .line-images .result) (c .before .line-images .ensures) (c .line-proof .result .now) (c .line-proof .ensures) (c .before .before .before .before .rest-of .result)
-      (c .before .before .before .before .rest-of .ensures)
-
-  inside : InSpace (start .args .f) (c .before .before .line-dimension .result) (c .before .line-images .result)
-  inside =
-      inner-space (start .args .f) k (start .args .images .now) (near t start) (far t start) (start .args .slot) (proof t start) (start .args .coin) (space t start) (lent t start) seven
-      (c .before .before .before .line-of .result) line (c .before .before .before .line-of .ensures) e (c .before .before .line-dimension .result) (c .before .before .line-dimension .ensures)
-      (c .before .line-images .result) (c .before .line-images .ensures) (c .line-proof .result .now) (c .line-proof .ensures) (c .before .before .before .before .rest-of .result)
-      (c .before .before .before .before .rest-of .ensures)
+  falls-below = omega (arith, facts .2, start .pre .0)
 
 row-near-requires : (t : ℕ) → check-parts-lts.Need-row-near-requires (claims t) (at t) check-parts.Post
 row-near-requires t c κs =
     let p = c .before .before .before .before in
     let s = start t p _ (c .before .before .line .given .1) in
-    (lent t s .parts, lent t s .eighth, seven t p _ (c .before .before .line .given .1), space t s .high, range t p _ (c .before .before .line .given .1))
+    (lent t s .parts, lent t s .eighth, seven t p _ (c .before .before .line .given .1), space t s .high, facts t p _ (c .before .before .line .given .1) .0)
 
 row-far-requires : (t : ℕ) → check-parts-lts.Need-row-far-requires (claims t) (at t) check-parts.Post
 row-far-requires t c κs =
     let p = c .before .before .before .before .before in
     let e = c .before .before .before .line .given .1 in
     let s = start t p _ e in
-    (seven t p _ e, space t s .high, lent t s .proof, range t p _ e)
-
-slot-requires : (t : ℕ) → check-parts-lts.Need-slot-requires (claims t) (at t) check-parts.Post
-slot-requires t c κs = search needs
+    (seven t p _ e, space t s .high, lent t s .proof, facts t p _ e .0)
 
 -- the row arm: the row's word is in two parts
 module _ (t : ℕ) (c : check-parts-lts.After-slot (claims t) (at t) check-parts.Post) where
@@ -214,38 +165,35 @@ module _ (t : ℕ) (c : check-parts-lts.After-slot (claims t) (at t) check-parts
 
   row-parts : (ρ : List ℕ) → length ρ ≡ S (rowDim (entry .args .k)) → Lent (rowDim (entry .args .k)) (c .before .before .row-near .result .now) (c .before .row-far .result .now) (slot row-number) ρ
   row-parts =
-      row-lent (entry .args .k) (seven t lines (Row row-number) row-taken) (word t entry) (proof t entry) (long t entry) (lent t entry .proof) row-number (range t lines (Row row-number) row-taken)
+      row-lent (entry .args .k) (seven t lines (Row row-number) row-taken) (word t entry) (proof t entry) (long t entry) (lent t entry .proof) row-number (facts t lines (Row row-number) row-taken .0)
       (c .before .before .row-near .result .now) (c .before .row-far .result .now) (c .before .before .row-near .ensures) (c .before .row-far .ensures)
 
   row-word : joined (c .before .before .row-near .result .now) (c .before .row-far .result .now) (c .slot .result) ≡ lineWord (entry .args .k) (word t entry) (proof t entry) (Row row-number)
   row-word =
       ap (joined (c .before .before .row-near .result .now) (c .before .row-far .result .now)) (c .slot .ensures)
-      ∙ row-joined (entry .args .k) (seven t lines (Row row-number) row-taken) (word t entry) (proof t entry) (long t entry) (lent t entry .proof) row-number (range t lines (Row row-number) row-taken)
+      ∙ row-joined (entry .args .k) (seven t lines (Row row-number) row-taken) (word t entry) (proof t entry) (long t entry) (lent t entry .proof) row-number (facts t lines (Row row-number) row-taken .0)
       (c .before .before .row-near .result .now) (c .before .row-far .result .now) (c .before .before .row-near .ensures) (c .before .row-far .ensures)
 
 check-parts-requires : (t : ℕ) → check-parts-lts.Need-check-parts-requires (claims t) (at t) check-parts.Post
 check-parts-requires t c κs =
     let p = lines t c in
     let e = row-taken t c in
-    let d = dim-is t p _ e in (
+    let d = facts t p _ e .1 in (
       falls-below t p _ e,
       (
-        inside t p _ e,
+        facts t p _ e .4,
         subst (λ (s : ℕ). Lent (p .before .before .line-dimension .result) (c .before .before .row-near .result .now) (c .before .row-far .result .now) s (p .line-proof .result .now)) (sym (c .slot .ensures))
             (subst (λ (n : ℕ). Lent n (c .before .before .row-near .result .now) (c .before .row-far .result .now) (slot (row-number t c)) (p .line-proof .result .now)) (sym d)
-            (row-parts t c (p .line-proof .result .now) (proof-long t p _ e ∙ ap S d))),
+            (row-parts t c (p .line-proof .result .now) (facts t p _ e .3 ∙ ap S d))),
       ),
     )
-
-enum-known-line-2 : (t : ℕ) → check-parts-lts.Need-enum-known-line-2 (claims t) (at t) check-parts.Post
-enum-known-line-2 t c = search needs
 
 column-requires : (t : ℕ) → check-parts-lts.Need-column-requires (claims t) (at t) check-parts.Post
 column-requires t c κs =
     let p = c .before .before .before in
     let e = c .before .line2 .given .1 in
     let s = start t p _ e in
-    (lent t s .parts, lent t s .eighth, seven t p _ e, space t s .high, lent t s .proof, range t p _ e)
+    (lent t s .parts, lent t s .eighth, seven t p _ e, space t s .high, lent t s .proof, facts t p _ e .0)
 
 rows-requires : (t : ℕ) → check-parts-lts.Need-rows-requires (claims t) (at t) check-parts.Post
 rows-requires t c κs = space t (c .before .before .before .before .before .before .before .before .before .before .before .before .before) .high
@@ -261,12 +209,6 @@ slice-aggregate-whole t c =
     let s = c .before .before .before .before .before .before .before .before .before .before .before .before .before .before .before in
     let few : 2 ^ colDim (s .args .k) ≤ 64 = pow-mono {j = 6} (omega (arith, space t s .high)) in
     sym (length-take-le (c .before .rows .result) (c .before .before .column .result) (omega (arith, c .before .rows .ensures, c .before .before .column .ensures .0)))
-
-first-block-requires : (t : ℕ) → check-parts-lts.Need-first-block-requires (claims t) (at t) check-parts.Post
-first-block-requires t c κs = search needs
-
-other-blocks-requires : (t : ℕ) → check-parts-lts.Need-other-blocks-requires (claims t) (at t) check-parts.Post
-other-blocks-requires t c κs = search needs
 
 -- the column arm: the column's word is plain
 module _ (t : ℕ) (c : check-parts-lts.After-other-blocks (claims t) (at t) check-parts.Post) where
@@ -295,28 +237,28 @@ check-parts-requires-2 : (t : ℕ) → check-parts-lts.Need-check-parts-requires
 check-parts-requires-2 t c κs =
     let p = lines2 t c in
     let e = column-taken t c in
-    let d = dim-is t p _ e in (
+    let d = facts t p _ e .1 in (
       falls-below t p _ e,
       (
-        inside t p _ e,
-        plain-lent (p .before .before .line-dimension .result) (inside t p _ e .low) (whole t c) (whole-long t c ∙ ap (λ (n : ℕ). 2 ^ n) (sym d)) (c .before .first-block .result .now) (c .other-blocks .result .now)
-            (c .before .first-block .ensures) (c .other-blocks .ensures) (p .line-proof .result .now) (proof-long t p _ e),
+        facts t p _ e .4,
+        plain-lent (p .before .before .line-dimension .result) (facts t p _ e .4 .low) (whole t c) (whole-long t c ∙ ap (λ (n : ℕ). 2 ^ n) (sym d)) (c .before .first-block .result .now) (c .other-blocks .result .now)
+            (c .before .first-block .ensures) (c .other-blocks .ensures) (p .line-proof .result .now) (facts t p _ e .3),
       ),
     )
 
 returns-2 : (t : ℕ) → check-parts-lts.Need-returns-2 (claims t) (at t) check-parts.Post
 returns-2 t c =
     let s = c .before in
-    whole-claim t (lines t s) _ (row-taken t s) (c .check-parts .result) _ (row-word t s) (c .check-parts .ensures)
+    facts t (lines t s) _ (row-taken t s) .5 (c .check-parts .result) _ (row-word t s) (c .check-parts .ensures)
 
 returns-3 : (t : ℕ) → check-parts-lts.Need-returns-3 (claims t) (at t) check-parts.Post
 returns-3 t c =
     let s = c .before in
     let p = lines2 t s in
     let e = column-taken t s in
-    let d = dim-is t p _ e in
-    whole-claim t p _ e (c .check-parts2 .result) _
-    (plain-joined (p .before .before .line-dimension .result) (inside t p _ e .low) (whole t s) (whole-long t s ∙ ap (λ (n : ℕ). 2 ^ n) (sym d)) (s .before .first-block .result .now)
+    let d = facts t p _ e .1 in
+    facts t p _ e .5 (c .check-parts2 .result) _
+    (plain-joined (p .before .before .line-dimension .result) (facts t p _ e .4 .low) (whole t s) (whole-long t s ∙ ap (λ (n : ℕ). 2 ^ n) (sym d)) (s .before .first-block .result .now)
     (s .other-blocks .result .now) (s .before .first-block .ensures) (s .other-blocks .ensures) ∙ column-word t s)
     (c .check-parts2 .ensures)
 
@@ -326,23 +268,23 @@ pub +check-parts-spec : {M : Type 1} → statement M
     (gather-requires t)
     (short-verdict-requires t)
     (returns t)
-    (rest-of-requires t)
-    (line-of-requires t)
-    (line-dimension-requires t)
+    (λ c κs. search needs)
+    (λ c κs. search needs)
+    (λ c κs. search needs)
     (line-images-requires t)
     (line-proof-requires t)
-    (enum-known-line t)
+    (λ c. search needs)
     (row-near-requires t)
     (row-far-requires t)
-    (slot-requires t)
+    (λ c κs. search needs)
     (check-parts-requires t)
-    (enum-known-line-2 t)
+    (λ c. search needs)
     (column-requires t)
     (rows-requires t)
     (array-share-prefix-read t)
     (slice-aggregate-whole t)
-    (first-block-requires t)
-    (other-blocks-requires t)
+    (λ c κs. search needs)
+    (λ c κs. search needs)
     (check-parts-requires-2 t)
     (returns-2 t)
     (returns-3 t)
