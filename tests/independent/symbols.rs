@@ -123,6 +123,31 @@ fn verdicts(t: &mut Tally) {
     }
 }
 
+/// The largest dimensions: one delivery each, whole, and some coins of it, honest and with a symbol changed that the coin reads.
+fn largest(t: &mut Tally) {
+    let mut d = Draw(0xbb67ae8584caa73b);
+    for k in 10..=12usize {
+        let (m, b) = (modulus(&mut d, 16), basis(&mut d, 16, k));
+        let p: Vec<u16> = (0..1 << (k - 3)).map(|_| d.next() as u16).collect();
+        let (mut w, mut s) = (vec![0; 1 << k], vec![7; 4 << k]);
+        let mut proof = vec![0; model::proof_length(k)];
+        let mut wrong = u64::from(encode(m, &b, &p, &mut w, &mut s) != 0) + u64::from(prove(m, &b, &w, &mut proof, &mut s) != 0);
+        wrong += u64::from(w != model::word_of(m, &b, &p)) + u64::from(proof != model::proof_of(m, &b, &p));
+        for turn in 0..200 {
+            let coin = d.below(1 << model::coin_bits(k));
+            let read = model::positions(k, coin);
+            let at = read[d.below(read.len() as u64) as usize];
+            let kept = swap(&mut w, &mut proof, at, d.next() as u16);
+            if turn % 2 == 0 {
+                swap(&mut w, &mut proof, at, kept);
+            }
+            wrong += u64::from(check(m, &b, &w, &proof, coin) != model::check(m, &b, &w, &proof, coin));
+            swap(&mut w, &mut proof, at, kept);
+        }
+        t.group(&format!("word, proof and coins at k = {k}"), wrong, 204);
+    }
+}
+
 /// The prover, with right and wrong lengths, symbols and words. Proof and scratch start as noise and are compared whole.
 fn prover(t: &mut Tally) {
     let mut d = Draw(0x6a09e667f3bcc909);
@@ -261,4 +286,5 @@ pub fn all(t: &mut Tally) {
     prover(t);
     bench_cases(t);
     verdicts(t);
+    largest(t);
 }

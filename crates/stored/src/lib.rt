@@ -83,11 +83,11 @@ pub fn read(file: &[u8]) -> Reading
 {
     let r = read_prefix(file);
     let number = r.refusal;
-    let end = r.end;
+    let last = r.end;
     if number != 0 {
         return r;
     }
-    if end < file.len() {
+    if last < file.len() {
         return refused(12);
     }
     r
