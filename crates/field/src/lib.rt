@@ -44,7 +44,9 @@ fn pair_refusal(modulus: u32, a: u16, b: u16) -> u8
     9
 }
 
-// The sum of two symbols. The contract rules out 3 for 3 + 3, and refusal 9 for the modulus 15.
+// The sum of two symbols.
+//
+// Ruled out: 3 for 3 + 3; refusal 9 for the modulus 15.
 pub fn sum(modulus: u32, a: u16, b: u16) -> Value
     ensures { λ r. ⌜ Told (fieldChecks modulus a b) (a ⊕ b) r ⌝ }
 {
@@ -55,8 +57,10 @@ pub fn sum(modulus: u32, a: u16, b: u16) -> Value
     Value::Symbol(a ^ b)
 }
 
-// The product of two symbols. The contract rules out 8, the product that is not reduced, for
-// 2 times 4 modulo 11, and a product where 8 is a factor, which is no symbol modulo 11.
+// The product of two symbols.
+//
+// Ruled out: 8, the product that is not reduced, for 2 times 4 modulo 11; a product where 8 is a
+// factor, which is no symbol modulo 11.
 pub fn product(modulus: u32, a: u16, b: u16) -> Value
     ensures { λ r. ⌜ Told (fieldChecks modulus a b) (product modulus a b) r ⌝ }
 {

@@ -32,8 +32,9 @@ fn irreducible(m: u32) -> bool
     true
 }
 
-// Checks 1 and 2 of a modulus: the number of the first that refuses, or 0. The contract rules out
-// that 21, which has no root, passes, and that 15 gives 1.
+// Checks 1 and 2 of a modulus: the number of the first that refuses, or 0.
+//
+// Ruled out: 0 for 21, which has no root; 1 for 15.
 pub fn modulus_refusal(m: u32) -> u8
     ensures { λ r. ⌜ Answers (modulusChecks m) r ⌝ }
 {

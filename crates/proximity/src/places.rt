@@ -19,7 +19,8 @@ ghost use Rattle.proximity.specs.ByLine.{InRange, lineDim, linePlace, pl
 
 // Where symbol i of row r lies: before, in or after the block that lies in the word.
 //
-// Ruled out: the block of row r, for r above 4, taken for block r, since it is block 4.
+// Ruled out: the block of row r, for r above 4, taken for block r, since it is block 4; a symbol of
+// the block that lies in the word, taken from the proof.
 pub fn row_place(k: usize, r: usize, i: usize) -> Place
     requires { ⌜ (k ≤ maxDim) × (r < 2 ^ colDim k) × (i < 2 ^ rowDim k) ⌝ }
     ensures { λ p. ⌜ p ≡ cell k r i ⌝ }

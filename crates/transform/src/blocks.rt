@@ -68,8 +68,9 @@ pub fn equal_lanes(values: &[u16]) -> bool
     bad == 0
 }
 
-// Whether the word of 2^k symbols is a codeword; work ends with the coefficients of each block. The
-// contract rules out true for a word of degree n/8 and false for a word of zeros.
+// Whether the word of 2^k symbols is a codeword; work ends with the coefficients of each block.
+//
+// Ruled out: true for a word of degree n/8; false for a word of zeros.
 pub fn is_codeword(f: Field, images: &[u16; 192], k: usize, word: &[u16], work: &mut [u16]) -> bool
     requires { ⌜ InBlocks f (now images) k (now word) × (length (now work) ≡ length (now word)) ⌝ }
     ensures { λ r. ⌜ Tested (f .modulus) (now (images .entry)) k (now (word .entry)) r (now (work .exit)) ⌝ }
