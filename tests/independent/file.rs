@@ -92,12 +92,17 @@ pub fn read(bytes: &[u8]) -> Result<File, u32> {
     Ok(File { modulus, basis, word, proof })
 }
 
-/// Setting and coefficients, or the number of the first check that refuses: 6 after 5 where the file would exceed 40000 bytes.
-pub fn read_table(bytes: &[u8]) -> Result<(u32, Vec<u16>, Vec<u16>), u32> {
+/// How many bytes the file of a setting of dimension k has.
+pub fn file_length(k: usize) -> usize {
+    19 + 2 * k + (2 << k) + 2 * proof_length(k)
+}
+
+/// Setting and coefficients, or the number of the first check that refuses: 6 after 5 where the file would exceed 40000 bytes or the room.
+pub fn read_table(bytes: &[u8], room: usize) -> Result<(u32, Vec<u16>, Vec<u16>), u32> {
     let mut rest = bytes;
     let (m, basis) = read_setting(&mut rest)?;
     let k = basis.len();
-    refuse_if(19 + 2 * k + (2 << k) + 2 * proof_length(k) > 40000, 6)?;
+    refuse_if(file_length(k) > room.min(40000), 6)?;
     let p = read_record(&mut rest, [0x43, 0x4f], 1 << (k - 3), degree(m))?;
     refuse_if(!rest.is_empty(), 12)?;
     Ok((m, basis, p))

@@ -6,6 +6,8 @@ extern "C" {
     fn proximity_coin_bits(file: *const u8, n: usize) -> u32;
     fn proximity_check_file(file: *const u8, n: usize, coin: u64, reads: *mut u32) -> u32;
     fn proximity_write(modulus: u32, basis: *const u16, n: usize, word: *const u16, w: usize, proof: *const u16, p: usize, out: *mut u8, o: usize) -> u32;
+    fn proximity_word_byte(file: *const u8, n: usize, at: u64) -> u32;
+    fn proximity_proof_byte(file: *const u8, n: usize, at: u64) -> u32;
     fn proximity_total(file: *const u8, n: usize, which: u32) -> u64;
     fn proximity_make(table: *const u8, n: usize, out: *mut u8, o: usize) -> u32;
 }
@@ -106,6 +108,30 @@ fn damaged(t: &mut Tally) {
     t.group("damaged files", wrong, 6000);
 }
 
+/// The bytes of both parts and the one past their end; a refused file has empty parts.
+fn parts(t: &mut Tally) {
+    let mut d = Draw(0x6a09e667f3bcc909);
+    let (mut wrong, mut refused) = (0, 0);
+    for round in 0..300u64 {
+        let k = 3 + (round % 5) as usize;
+        let mut f = bytes(&delivery(&mut d, k));
+        if round % 2 == 1 {
+            spoil(&mut d, &mut f, k);
+        }
+        let (word, proof) = file::read(&f).map_or((vec![], vec![]), |x| (x.word, x.proof));
+        refused += u64::from(word.is_empty());
+        let same = |part: &[u16], byte: &dyn Fn(u64) -> u32| {
+            let right = part.iter().flat_map(|x| x.to_le_bytes()).map(u32::from).chain([256]);
+            right.enumerate().all(|(at, x)| byte(at as u64) == x)
+        };
+        let right = same(&word, &|at| unsafe { proximity_word_byte(f.as_ptr(), f.len(), at) })
+            && same(&proof, &|at| unsafe { proximity_proof_byte(f.as_ptr(), f.len(), at) });
+        wrong += u64::from(!right);
+    }
+    println!("refused among them: {refused}");
+    t.group("parts of files", wrong, 300);
+}
+
 /// The writer, with right and wrong lengths and symbols; the output is compared whole.
 fn written(t: &mut Tally) {
     let mut d = Draw(0x9b05688c2b3e6c1f);
@@ -168,7 +194,7 @@ fn counts(t: &mut Tally) {
     t.group("coin counter", wrong, cases);
 }
 
-/// From coefficients in bytes to a stored file.
+/// From coefficients in bytes to a stored file, in enough room and in too little; the output is compared whole.
 fn tables(t: &mut Tally) {
     let mut d = Draw(0x5be0cd19137e2179);
     let (mut wrong, mut numbers) = (0, [0u64; 13]);
@@ -189,10 +215,12 @@ fn tables(t: &mut Tally) {
             7 => f.push(0),
             _ => {}
         }
-        let old: Vec<u8> = (0..40000).map(|i| (i * 7) as u8).collect();
+        let all = file::file_length(k);
+        let room = [40000, all, all - 1, 0][d.below(4) as usize];
+        let old: Vec<u8> = (0..room).map(|i| (i * 7) as u8).collect();
         let mut out = old.clone();
         let got = unsafe { proximity_make(f.as_ptr(), f.len(), out.as_mut_ptr(), out.len()) };
-        let (right, whole) = match file::read_table(&f) {
+        let (right, whole) = match file::read_table(&f, room) {
             Err(n) => (65536 + n, old),
             Ok((m, b, p)) => {
                 let made = file::bytes_of(m, &b, &model::word_of(m, &b, &p), &model::proof_of(m, &b, &p));
@@ -200,7 +228,7 @@ fn tables(t: &mut Tally) {
             }
         };
         wrong += u64::from(got != right || out != whole);
-        numbers[file::read_table(&f).err().unwrap_or(0) as usize] += 1;
+        numbers[file::read_table(&f, room).err().unwrap_or(0) as usize] += 1;
     }
     println!("made or refused, by number: {numbers:?}");
     t.group("files from coefficients", wrong, 800);
@@ -227,6 +255,7 @@ fn samples(t: &mut Tally) {
 pub fn all(t: &mut Tally) {
     cuts(t);
     damaged(t);
+    parts(t);
     written(t);
     counts(t);
     tables(t);

@@ -60,6 +60,10 @@ module _ (f : List ℕ) (r : Reading) (a : Readable f r) where
     pub few-symbols : symbolCount k ≤ 256
     few-symbols = omega (arith, count-is, pow-mono {i = k} {j = 8} (small h))
 
+    -- the word in the first places of a list
+    pub word-front : (xs : List ℕ) → take (2 ^ k) xs ≡ numbersAt f (r .word) (2 ^ k) → take (symbolCount k) xs ≡ numbersAt f (r .word) (2 ^ k)
+    word-front xs e = ap (λ (i : ℕ). take i xs) count-is ∙ e
+
     pub short : S k ≤ 16128
     short = short-proof k (small h)
 

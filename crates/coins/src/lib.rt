@@ -43,9 +43,12 @@ pub fn count(file: &[u8]) -> Counts
     }
     let r = stored::read(file);
     let number = r.refusal;
+    let setting = r.setting;
     if number != 0 {
         return refused(number);
     }
-    let off = off::off(file, r);
-    tally::totals(file, r, off)
+    let places = symbols::word_of(file, r);
+    let word = &places[..1usize << setting.space.k];
+    let off = off::off(setting, word);
+    tally::totals(file, r, word, off)
 }

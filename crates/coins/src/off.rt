@@ -1,8 +1,8 @@
 // At how many positions a word of at most 256 symbols differs from the polynomial through its first
 // eighth.
-use super::symbols;
+use super::symbols::no_word;
 use field::Field;
-use stored::Reading;
+use space::Setting;
 use transform::blocks::evaluate_blocks;
 use transform::blocks::is_codeword;
 ghost use mathlib.Core.Path.{_≡_};
@@ -13,9 +13,7 @@ ghost use Rattle.field.specs.Symbols.{symbols};
 ghost use Rattle.poly.specs.Codeword.{Basis};
 ghost use Rattle.space.specs.Images.{Images};
 ghost use Rattle.transform.specs.Blocks.{InBlocks};
-ghost use Rattle.stored.specs.File.{modulusIn, dimIn, basisIn, wordIn};
 ghost use Rattle.coins.specs.Lanes.{firstLane, inOrder};
-ghost use Rattle.coins.specs.Tally.{Readable};
 ghost use Rattle.coins.specs.Totals.{differences, Off};
 
 // Copies lane 0 into all eight lanes.
@@ -57,17 +55,15 @@ fn off_first(f: Field, images: &[u16; 192], k: usize, word: &[u16], lanes: &mut 
     differing(word, size, lanes)
 }
 
-// The same for the word of an accepted file of at most 40000 bytes.
-pub fn off(file: &[u8], r: Reading) -> usize
-    requires { ⌜ Readable (now file) r × (length (now file) ≤ 40000) ⌝ }
-    ensures { λ n. ⌜ Off (symbols (modulusIn (now (file .entry)))) (dimIn (now (file .entry))) (basisIn (now (file .entry))) (wordIn (now (file .entry))) n ⌝ }
+// The same for a word in a setting.
+pub fn off(setting: Setting, word: &[u16]) -> usize
+    requires { ⌜ InBlocks (setting .field) (setting .space .images) (setting .space .k) (now word) × (length (now word) ≤ 256) ⌝ }
+    ensures { λ n. ⌜ ((b : List ℕ) → Basis (symbols (setting .field .modulus)) (setting .space .k) b → Images (symbols (setting .field .modulus)) b (setting .space .images) → Off (symbols (setting .field .modulus)) (setting .space .k) b (now (word .entry)) n) ⌝ }
 {
-    let setting = r.setting;
     let f = setting.field;
     let images = setting.space.images;
     let k = setting.space.k;
-    let n = 1usize << k;
-    let word = symbols::word_of(file, r);
-    let mut lanes = symbols::no_word();
-    off_first(f, &images, k, &word[..n], &mut lanes[..n])
+    let n = word.len();
+    let mut lanes = no_word();
+    off_first(f, &images, k, word, &mut lanes[..n])
 }

@@ -6,9 +6,10 @@ use stored::Reading;
 use verifier::Verdict;
 use verifier::parts;
 ghost use mathlib.Core.Path.{_≡_};
-ghost use Prim.Native.Nat.{_≤_, max};
+ghost use Prim.Native.Nat.{_^_, _≤_, max};
 ghost use lib.ListN.{length};
 ghost use Rattle.field.specs.Symbols.{symbols};
+ghost use Rattle.stored.specs.Bytes.{numbersAt};
 ghost use Rattle.stored.specs.File.{modulusIn, dimIn, basisIn, wordIn};
 ghost use Rattle.coins.specs.Tally.{rejectsIn, readsIn, Readable};
 ghost use Rattle.coins.specs.Totals.{Off, Totals};
@@ -18,9 +19,9 @@ fn rejecting(v: Verdict) -> u64
     ensures { λ r. ⌜ r ≡ rejectsIn v ⌝ }
 {
     match v {
-        Verdict::Accept(n) => 0,
-        Verdict::Reject(n) => 1,
-        Verdict::Refused(n) => 0,
+        Verdict::Accept(_) => 0,
+        Verdict::Reject(_) => 1,
+        Verdict::Refused(_) => 0,
     }
 }
 
@@ -31,7 +32,7 @@ fn reads(v: Verdict) -> usize
     match v {
         Verdict::Accept(n) => n,
         Verdict::Reject(n) => n,
-        Verdict::Refused(n) => 0,
+        Verdict::Refused(_) => 0,
     }
 }
 
@@ -44,25 +45,23 @@ fn larger(a: usize, b: usize) -> usize
     a
 }
 
-// The totals of an accepted file of at most 40000 bytes.
-pub fn totals(file: &[u8], r: Reading, off: usize) -> Counts
-    requires { ⌜ Readable (now file) r × (length (now file) ≤ 40000) × Off (symbols (modulusIn (now file))) (dimIn (now file)) (basisIn (now file)) (wordIn (now file)) off ⌝ }
+// The totals of an accepted file of at most 40000 bytes, its word decoded.
+pub fn totals(file: &[u8], r: Reading, word: &[u16], off: usize) -> Counts
+    requires { ⌜ Readable (now file) r × (length (now file) ≤ 40000) × (now word ≡ numbersAt (now file) (r .word) (2 ^ r .setting .space .k)) × Off (symbols (modulusIn (now file))) (dimIn (now file)) (basisIn (now file)) (wordIn (now file)) off ⌝ }
     ensures { λ t. ⌜ (t .refusal ≡ 0) × Totals (now (file .entry)) t ⌝ }
 {
     let setting = r.setting;
     let field = setting.field;
     let images = setting.space.images;
     let k = setting.space.k;
-    let n = 1usize << k;
     let s = tables::proof_length(k);
-    let word = symbols::word_of(file, r);
     let proof = symbols::proof_of(file, r);
     let coins = 1u64 << tables::coin_bits(k);
     let mut rejects: u64 = 0;
     let mut most: usize = 0;
     let mut coin: u64 = 0;
     while coin < coins {
-        let v = parts::check_word(field, k, &images, &word[..n], &proof[..s], coin);
+        let v = parts::check_word(field, k, &images, word, &proof[..s], coin);
         rejects += rejecting(v);
         most = larger(most, reads(v));
         coin += 1;

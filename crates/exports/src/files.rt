@@ -3,8 +3,14 @@ use coins::Counts;
 use delivery::Made;
 use stored::Outcome;
 ghost use mathlib.Core.Path.{_≡_};
+ghost use mathlib.Core.List.{List};
+ghost use Prim.Native.Nat.{ℕ, _*_, _^_};
+ghost use lib.ListN.{getD};
 ghost use Rattle.coins.specs.Totals as totals;
 ghost use Rattle.delivery.specs.Table as making;
+ghost use Rattle.proximity.specs.Dim.{S};
+ghost use Rattle.stored.specs.File.{wordAt, proofAt, dimIn};
+ghost use Rattle.stored.specs.Reader.{PartOf};
 ghost use Rattle.stored.specs.Writer.{Wrote};
 ghost use Rattle.exports.specs.Files.{writtenCode, madeCode, totalOf};
 
@@ -69,4 +75,29 @@ pub extern "C" fn proximity_total(file: &[u8], which: u32) -> u64
     ensures { λ r. ⌜ ((c : Counts) × totals.Told (now (file .entry)) c × (r ≡ totalOf c which)) ⌝ }
 {
     total(coins::count(file), which)
+}
+
+fn byte_at(part: &[u8], at: u64) -> u32
+    ensures { λ r. ⌜ r ≡ getD (now (part .entry)) at 256 ⌝ }
+{
+    if at < part.len() as u64 {
+        return part[at as usize] as u32;
+    }
+    256
+}
+
+// Byte `at` of the word's part of a stored file, or 256 past its end.
+#[no_mangle]
+pub extern "C" fn proximity_word_byte(file: &[u8], at: u64) -> u32
+    ensures { λ r. ⌜ ((p : List ℕ) × PartOf (now (file .entry)) (wordAt (dimIn (now (file .entry)))) (2 * 2 ^ dimIn (now (file .entry))) p × (r ≡ getD p at 256)) ⌝ }
+{
+    byte_at(stored::word_part(file), at)
+}
+
+// The same of the proof's part.
+#[no_mangle]
+pub extern "C" fn proximity_proof_byte(file: &[u8], at: u64) -> u32
+    ensures { λ r. ⌜ ((p : List ℕ) × PartOf (now (file .entry)) (proofAt (dimIn (now (file .entry)))) (2 * S (dimIn (now (file .entry)))) p × (r ≡ getD p at 256)) ⌝ }
+{
+    byte_at(stored::proof_part(file), at)
 }

@@ -1,6 +1,19 @@
 -- `coins::count` meets its contract. Assumes nothing.
-use Rattle.stored.specs.CheckLaws.{read-passes}
+use mathlib.Core.Path.{_≡_, sym}
+use mathlib.Core.List.{List}
+use Prim.Native.Nat.{ℕ, _^_, _≤_}
+use native.Mathlib.Omega.{arith}
+use lib.ListN.{length, take}
+use lib.Seq.{length-take-le}
+use Rattle.field.specs.Symbols.{symbols}
+use Rattle.stored.specs.Bytes.{numbersAt}
+use Rattle.stored.specs.CheckLaws.{read-passes, read-basis, read-images}
+use Rattle.stored.specs.File.{modulusIn, dimIn, basisIn, wordIn}
+use Rattle.stored.specs.declared.Reading.{Reading}
 use Rattle.coins.specs.Answer.{told-long, told-refused, told-totals}
+use Rattle.coins.specs.Tally.{Readable}
+use Rattle.coins.specs.Totals.{Off}
+use Rattle.coins.proofs.FileSymbols.{symbolCount, small, few-symbols, word-front, word-blocks, word-off}
 use borrow.Author.Needs.{needs}
 use Rattle.coins.proofs.count.Statement.{statement}
 use Rattle.coins.proofs.count.Tie as tie
@@ -19,20 +32,76 @@ refused-requires-2 c κs = search needs
 
 returns-2 : tie.Need-returns-2
 returns-2 c =
-    let t = c .before .before in
+    let t = c .before .before .before in
     told-refused (t .before .before .before .args .file .now) (c .refused2 .result) (t .before .if1 .left) (t .read .result) (t .read .ensures) (c .before .if2 .taken) (c .refused2 .ensures)
 
+word-of-requires : tie.Need-word-of-requires
+word-of-requires c κs = search needs
+
+-- the word is decoded
+module _ (c : tie.After-word-of) where
+  abbrev reading : tie.After-read
+  reading = c .before .before .before
+
+  abbrev bytes : List ℕ
+  bytes = reading .before .before .before .args .file .now
+
+  abbrev found : Reading
+  found = reading .read .result
+
+  read : Readable bytes found
+  read = (reading .read .ensures, c .before .if2 .left)
+
+  short : length bytes ≤ 40000
+  short = reading .before .if1 .left
+
+  abbrev word : List ℕ
+  word = take (symbolCount (found .setting .space .k)) (c .word-of .result)
+
+  few : symbolCount (found .setting .space .k) ≤ 256
+  few = few-symbols bytes found read short
+
+  long : length word ≡ symbolCount (found .setting .space .k)
+  long = length-take-le _ _ (omega (arith, few, c .word-of .ensures .0))
+
+  word-is : word ≡ numbersAt bytes (found .word) (2 ^ found .setting .space .k)
+  word-is = word-front bytes found read short (c .word-of .result) (c .word-of .ensures .1)
+
+shl-places : tie.Need-shl-places
+shl-places c = let t = c .before in omega (arith, small (bytes t) (found t) (read t) (short t))
+
+array-share-prefix-places : tie.Need-array-share-prefix-places
+array-share-prefix-places c = let t = c .before in omega (arith, few t, t .word-of .ensures .0)
+
+slice-aggregate-word : tie.Need-slice-aggregate-word
+slice-aggregate-word c = sym (long (c .before .before))
+
 off-requires : tie.Need-off-requires
-off-requires c κs = search needs
+off-requires c κs =
+    let t = c .before .before in (
+      word-blocks (bytes t) (found t) (read t) (short t) (word t) (word-is t),
+      omega (arith, long t, few t),
+    )
+
+-- what is off in the file's word
+module _ (c : tie.After-off) where
+  abbrev decoded : tie.After-word-of
+  decoded = c .before .before .before
+
+  word-differs : Off (symbols (modulusIn (bytes decoded))) (dimIn (bytes decoded)) (basisIn (bytes decoded)) (wordIn (bytes decoded)) (c .off .result)
+  word-differs =
+      let t = decoded in
+      let f = bytes t in
+      word-off f (found t) (read t) (short t) (word t) (c .off .result) (word-is t)
+      (c .off .ensures (basisIn f) (read-basis f (found t) (read t .0) (read t .1)) (read-images f (found t) (read t .0) (read t .1)))
 
 totals-requires : tie.Need-totals-requires
-totals-requires c κs = search needs
+totals-requires c κs = let t = decoded c in (read t, short t, word-is t, word-differs c)
 
 returns-3 : tie.Need-returns-3
 returns-3 c =
-    let t = c .before .before .before in
-    let f = t .before .before .before .args .file .now in
-    told-totals f (c .totals .result) (t .before .if1 .left) (read-passes f (t .read .result) (t .read .ensures) (c .before .before .if2 .left)) (c .totals .ensures .0) (c .totals .ensures .1)
+    let t = decoded (c .before) in
+    told-totals (bytes t) (c .totals .result) (short t) (read-passes (bytes t) (found t) (read t .0) (read t .1)) (c .totals .ensures .0) (c .totals .ensures .1)
 
 pub count-spec : {M : Type 1} → statement M
 count-spec =
@@ -43,6 +112,10 @@ count-spec =
     read-requires
     refused-requires-2
     returns-2
+    word-of-requires
+    shl-places
+    array-share-prefix-places
+    slice-aggregate-word
     off-requires
     totals-requires
     returns-3)

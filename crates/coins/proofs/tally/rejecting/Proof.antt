@@ -5,24 +5,24 @@ use borrow.Author.Needs.{needs}
 use Rattle.coins.proofs.tally.rejecting.Statement.{statement}
 use Rattle.coins.proofs.tally.rejecting.Tie as tie
 
-enum-known-v : tie.Need-enum-known-v
-enum-known-v c = search needs
+enum-told : tie.Need-enum-told
+enum-told c = search needs
 
-enum-known-v-2 : tie.Need-enum-known-v-2
-enum-known-v-2 c = search needs
+enum-told-2 : tie.Need-enum-told-2
+enum-told-2 c = search needs
 
-enum-known-v-3 : tie.Need-enum-known-v-3
-enum-known-v-3 c = search needs
+enum-told-3 : tie.Need-enum-told-3
+enum-told-3 c = search needs
 
 returns : tie.Need-returns
-returns c = sym (ap rejectsIn (c .before .v .given .1))
+returns c = sym (ap rejectsIn (c .enum-told .given .1))
 
 returns-2 : tie.Need-returns-2
-returns-2 c = sym (ap rejectsIn (c .before .v2 .given .1))
+returns-2 c = sym (ap rejectsIn (c .enum-told2 .given .1))
 
 returns-3 : tie.Need-returns-3
-returns-3 c = sym (ap rejectsIn (c .before .v3 .given .1))
+returns-3 c = sym (ap rejectsIn (c .enum-told3 .given .1))
 
 pub rejecting-spec : {M : Type 1} → statement M
 rejecting-spec =
-    tie.close (tie.spec enum-known-v enum-known-v-2 enum-known-v-3 returns returns-2 returns-3)
+    tie.close (tie.spec enum-told enum-told-2 enum-told-3 returns returns-2 returns-3)

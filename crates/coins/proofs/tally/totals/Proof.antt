@@ -22,15 +22,15 @@ use Rattle.stored.specs.declared.Reading.{Reading}
 use Rattle.coins.specs.Counted.{Counted, counted-most}
 use Rattle.coins.specs.Tally.{judged, count-verdict, most-verdict}
 use Rattle.coins.specs.Totals.{Rejects, mostOf}
-use Rattle.coins.proofs.FileSymbols.{symbolCount, count-is, few-symbols, short}
+use Rattle.coins.proofs.FileSymbols.{short}
 use Rattle.coins.proofs.tally.totals.Statement.{statement}
 use Rattle.coins.proofs.tally.totals.Tie as tie
 
 abbrev Inv-loop : tie.InvT-loop
-Inv-loop file off field images k n s word proof coins rejects₀ most₀ coin₀ rejects most coin = (coin ≤ coins) × Counted (Rejects file) coin rejects × (most ≡ mostOf coin (readsOf (dimIn file)))
+Inv-loop file word off field images k s proof coins rejects₀ most₀ coin₀ rejects most coin = (coin ≤ coins) × Counted (Rejects file) coin rejects × (most ≡ mostOf coin (readsOf (dimIn file)))
 
 abbrev μ-loop : tie.MeasureT-loop
-μ-loop file off field images k n s word proof coins rejects₀ most₀ coin₀ rejects most coin = coins - coin
+μ-loop file word off field images k s proof coins rejects₀ most₀ coin₀ rejects most coin = coins - coin
 
 -- the file is accepted
 module _ (c : tie.Start Inv-loop μ-loop) where
@@ -49,14 +49,8 @@ module _ (c : tie.Start Inv-loop μ-loop) where
   few : found .setting .space .k ≤ 12
   few = read-laid bytes found told none .few
 
-shl-n : tie.Need-shl-n Inv-loop μ-loop
-shl-n c = omega (arith, few (c .before .before .before .before))
-
 proof-length-requires : tie.Need-proof-length-requires Inv-loop μ-loop
-proof-length-requires c κs = few (c .before .before .before .before)
-
-word-of-requires : tie.Need-word-of-requires Inv-loop μ-loop
-word-of-requires c κs = let s = c .before .before .before .before .before in (s .pre .0, s .pre .1)
+proof-length-requires c κs = few (c .before .before .before .before .before)
 
 proof-of-requires : tie.Need-proof-of-requires Inv-loop μ-loop
 proof-of-requires c κs = let s = c .before .before .before .before .before .before in (s .pre .0, s .pre .1)
@@ -79,10 +73,10 @@ module _ (c : tie.After-coin-bits Inv-loop μ-loop) where
   coins = 1 * 2 ^ c .coin-bits .result % 18446744073709551616
 
   abbrev word : List ℕ
-  word = take (symbolCount k) (decoded .before .word-of .result)
+  word = start .args .word .now
 
   abbrev proof : List ℕ
-  proof = take (decoded .before .before .proof-length .result) (decoded .proof-of .result)
+  proof = take (decoded .before .proof-length .result) (decoded .proof-of .result)
 
   small : c .coin-bits .result < 26
   small = omega (arith, c .coin-bits .ensures, R-small k (omega (arith, few start)))
@@ -97,16 +91,13 @@ module _ (c : tie.After-coin-bits Inv-loop μ-loop) where
   bounded = omega (arith, one-shifted (c .coin-bits .result) (omega (arith, small)), pow-mono {i = c .coin-bits .result} {j = 26} (omega (arith, small)))
 
   word-is : word ≡ numbersAt (bytes start) (found start .word) (2 ^ k)
-  word-is = ap (λ (i : ℕ). take i (decoded .before .word-of .result)) (count-is (bytes start) (found start) (start .pre .0) (start .pre .1)) ∙ decoded .before .word-of .ensures .1
+  word-is = start .pre .2
 
   proof-is : proof ≡ numbersAt (bytes start) (found start .proof) (S k)
-  proof-is = ap (λ (i : ℕ). take i (decoded .proof-of .result)) (decoded .before .before .proof-length .ensures) ∙ decoded .proof-of .ensures .1
+  proof-is = ap (λ (i : ℕ). take i (decoded .proof-of .result)) (decoded .before .proof-length .ensures) ∙ decoded .proof-of .ensures .1
 
-  word-fits : symbolCount k ≤ length (decoded .before .word-of .result)
-  word-fits = omega (arith, few-symbols (bytes start) (found start) (start .pre .0) (start .pre .1), decoded .before .word-of .ensures .0)
-
-  proof-fits : decoded .before .before .proof-length .result ≤ length (decoded .proof-of .result)
-  proof-fits = omega (arith, short (bytes start) (found start) (start .pre .0) (start .pre .1), decoded .before .before .proof-length .ensures, decoded .proof-of .ensures .0)
+  proof-fits : decoded .before .proof-length .result ≤ length (decoded .proof-of .result)
+  proof-fits = omega (arith, short (bytes start) (found start) (start .pre .0) (start .pre .1), decoded .before .proof-length .ensures, decoded .proof-of .ensures .0)
 
 cast-coins : tie.Need-cast-coins Inv-loop μ-loop
 cast-coins c = omega (arith, small c)
@@ -117,21 +108,15 @@ shl-coins c = omega (arith, small c)
 loop-holds : tie.Need-loop-holds Inv-loop μ-loop
 loop-holds c = (omega arith, refl, refl)
 
-array-share-prefix-word : tie.Need-array-share-prefix-word Inv-loop μ-loop
-array-share-prefix-word c = word-fits (c .before .before .before)
+array-share-prefix-proof : tie.Need-array-share-prefix-proof Inv-loop μ-loop
+array-share-prefix-proof c = proof-fits (c .before .before .before)
 
 slice-aggregate-check-word : tie.Need-slice-aggregate-check-word Inv-loop μ-loop
-slice-aggregate-check-word c = sym (length-take-le _ _ (word-fits (c .before .before .before .before)))
-
-array-share-prefix-proof : tie.Need-array-share-prefix-proof Inv-loop μ-loop
-array-share-prefix-proof c = proof-fits (c .before .before .before .before)
-
-slice-aggregate-check-word-2 : tie.Need-slice-aggregate-check-word-2 Inv-loop μ-loop
-slice-aggregate-check-word-2 c = sym (length-take-le _ _ (proof-fits (c .before .before .before .before .before)))
+slice-aggregate-check-word c = sym (length-take-le _ _ (proof-fits (c .before .before .before .before)))
 
 check-word-requires : tie.Need-check-word-requires Inv-loop μ-loop
 check-word-requires c κs =
-    let t = c .before .before .before .before .before in
+    let t = c .before .before .before .before in
     let s = start t in (
       read-space (bytes s) (found s) (told s) (none s),
       ap length (word-is t) ∙ length-tab (2 ^ k t) (λ i. twoAt (bytes s) (found s .word + 2 * i)),
@@ -141,7 +126,7 @@ check-word-requires c κs =
 -- the verdict at this coin
 module _ (c : tie.After-check-word Inv-loop μ-loop) where
   abbrev head : tie.At-loop Inv-loop μ-loop
-  head = c .before .before .before .before .before
+  head = c .before .before .before .before
 
   abbrev at : tie.After-coin-bits Inv-loop μ-loop
   at = head .before
@@ -212,7 +197,7 @@ returns c =
         coins = all-coins t;
         rejects = subst (λ (n : ℕ). Counted (Rejects f) n (h .loop .rejects)) last (h .loop .inv .1);
         most = h .loop .inv .2 ∙ ap (λ (n : ℕ). mostOf n (readsOf (dimIn f))) last;
-        off = start t .pre .2;
+        off = start t .pre .3;
       },
     )
 
@@ -222,18 +207,14 @@ totals-spec =
     (tie.spec
     Inv-loop
     μ-loop
-    shl-n
     proof-length-requires
-    word-of-requires
     proof-of-requires
     coin-bits-requires
     cast-coins
     shl-coins
     loop-holds
-    array-share-prefix-word
-    slice-aggregate-check-word
     array-share-prefix-proof
-    slice-aggregate-check-word-2
+    slice-aggregate-check-word
     check-word-requires
     rejecting-requires
     add-rejects
