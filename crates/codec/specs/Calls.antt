@@ -5,7 +5,7 @@ use mathlib.Core.List.{List, [], _∷_, _++_}
 use Prim.Native.Nat.{ℕ, zero, suc, _*_, _-_, _^_, _<_}
 use lib.ListN.{length}
 use Rattle.lists.specs.All.{All, Below}
-use Rattle.lists.specs.Answers.{Checks, Answers}
+use Rattle.lists.specs.Answers.{Checks}
 use Rattle.lists.specs.Calls.{Accepted, RefusedWith}
 use Rattle.field.specs.Binary.{degree}
 use Rattle.field.specs.Symbols.{symbols}

@@ -82,10 +82,6 @@ clmul-double-right a b =
 pub clmul-two-right : (a : ℕ) → clmul a 2 ≡ a * 2
 clmul-two-right a = clmul-double-right a 1 ∙ ap (λ (x : ℕ). x * 2) (clmul-one-right a)
 
-pub clmul-bit-right : (a b : ℕ) → clmul a (b % 2) ≡ a * (b % 2)
-clmul-bit-right a =
-    bit-ind (λ (d : ℕ). clmul a d ≡ a * d) (clmul-zero-right a ∙ sym (mul-zero a)) (clmul-one-right a ∙ sym (mul-one a))
-
 -- ---- commutative
 
 pub clmul-double-left : (a b : ℕ) → clmul (a * 2) b ≡ clmul a b * 2

@@ -1,8 +1,7 @@
 -- The degree of a polynomial over GF(2), of a sum and of a product. Assumes nothing.
 use mathlib.Core.Path.{_≡_, refl, sym, ap, ap₂, _∙_, subst}
-use mathlib.Core.Logic.{_⊎_, inl, inr}
 use Prim.Native.Nat.{ℕ, zero, suc, _+_, _*_, _/_, _%_, _^_, _≤_, _<_}
-use native.Mathlib.Nat.{le-refl, le-trans, lt-of-lt-of-le, lt-of-le-of-lt, lt-irrefl, pow-suc, add-suc, add-zero, one-mul, div-lt-iff-lt-mul, div-eq-of-lt-le, eq-zero-or-pos}
+use native.Mathlib.Nat.{le-refl, le-trans, lt-of-lt-of-le, lt-of-le-of-lt, lt-irrefl, pow-suc, add-suc, add-zero, one-mul, div-lt-iff-lt-mul, div-eq-of-lt-le}
 use native.Mathlib.Omega.{arith}
 use lib.Arith.{half-le}
 use lib.Pow.{pow-pos, pow-mono}
@@ -30,9 +29,6 @@ degree-upto-right (suc k) (suc (suc n)) h p = from-half (degree-upto-right k (su
 pub degree-right : (n : ℕ) → 0 < n → HasDegree n (degree n)
 unfolding degree
 degree-right n p = degree-upto-right n n (le-refl n) p
-
-pub HasDegree-positive : {a i : ℕ} → HasDegree a i → 0 < a
-HasDegree-positive {i = i} d = le-trans (pow-pos i) (d .low)
 
 pub degree-positive : {a i : ℕ} → HasDegree a i → 2 ≤ a → 0 < i
 degree-positive {i = zero} d h = absurd (omega (arith, d .high))
@@ -104,12 +100,3 @@ clmul-degree (suc j) {a} {b} {i} d e =
     (subst (λ (x : ℕ). HasDegree x (suc (i + j))) (sym (clmul-step a b))
     (xor-degree (double-degree (clmul-degree j d (half-degree e)))
     (lt-of-le-of-lt (mul-bit-le a b) (lt-of-lt-of-le (d .high) (pow-mono (omega arith))))))
-
--- no zero divisors
-pub clmul-zero : (a b : ℕ) → clmul a b ≡ 0 → (a ≡ 0) ⊎ (b ≡ 0)
-clmul-zero a b e = go (eq-zero-or-pos a) (eq-zero-or-pos b)
-  where
-    go : (a ≡ 0) ⊎ (0 < a) → (b ≡ 0) ⊎ (0 < b) → (a ≡ 0) ⊎ (b ≡ 0)
-    go (inl za) pb = inl za
-    go (inr pa) (inl zb) = inr zb
-    go (inr pa) (inr pb) = absurd (omega (arith, HasDegree-positive (clmul-degree (degree b) (degree-right a pa) (degree-right b pb))))

@@ -6,7 +6,7 @@ use native.Mathlib.Nat.{lt-irrefl, lt-of-lt-of-le, lt-of-le-of-lt, le-refl, eq-z
 use native.Mathlib.Omega.{arith}
 use Rattle.field.specs.Binary.{_⊕_, clmul, degree, reduce, rem, product, Irreducible}
 use Rattle.field.specs.Xor.{xor-zero-left, xor-zero-right, xor-move}
-use Rattle.field.specs.Clmul.{clmul-zero-left, clmul-step, clmul-two-right, clmul-double-left, clmul-one-left, clmul-one-right, clmul-comm, clmul-assoc, clmul-left-comm, clmul-xor-left, clmul-xor-right}
+use Rattle.field.specs.Clmul.{clmul-zero-left, clmul-step, clmul-two-right, clmul-one-left, clmul-one-right, clmul-comm, clmul-assoc, clmul-left-comm, clmul-xor-left, clmul-xor-right}
 use Rattle.field.specs.Degree.{mul-bit-le, degree-right}
 use Rattle.field.specs.Rem.{rem-zero, reduce-rem, rem-below, rem-small, rem-multiple, rem-xor, rem-clmul-left, rem-clmul-right, divide}
 
@@ -55,20 +55,6 @@ module _ (m : ℕ) (pos : 0 < m) where
   unfolding product
   product-step {x} y h =
       ap (rem m) (clmul-step x y) ∙ rem-xor m pos (clmul x (y / 2) * 2) (x * (y % 2)) ∙ ap₂ _⊕_ (rem-double (clmul x (y / 2))) (rem-bit y h)
-
-  -- the lowest digit first
-  pub product-step-low : {x : ℕ} (y : ℕ) → x < 2 ^ degree m → product m x y ≡ product m (reduce m (x * 2)) (y / 2) ⊕ x * (y % 2)
-  unfolding product
-  product-step-low {x} y h =
-      ap (rem m) digits ∙ rem-xor m pos (clmul (x * 2) (y / 2)) (x * (y % 2)) ∙ ap₂ _⊕_ first (rem-bit y h)
-    where
-      digits : clmul x y ≡ clmul (x * 2) (y / 2) ⊕ x * (y % 2)
-      digits = clmul-step x y ∙ ap (λ (w : ℕ). w ⊕ x * (y % 2)) (sym (clmul-double-left x (y / 2)))
-
-      first : rem m (clmul (x * 2) (y / 2)) ≡ rem m (clmul (reduce m (x * 2)) (y / 2))
-      first =
-          sym (rem-clmul-left m pos (x * 2) (y / 2))
-          ∙ ap (λ (w : ℕ). rem m (clmul w (y / 2))) (sym (reduce-rem m pos (omega (arith, pow-suc 2 (degree m)))))
 
 -- ---- inverses modulo an irreducible m
 

@@ -73,9 +73,6 @@ xor-cancel-left a b = sym (xor-assoc a a b) ∙ ap (λ (x : ℕ). x ⊕ b) (xor-
 -- `simp xor-laws` proves an equation of sums by the laws of an abelian group of exponent 2
 pub ruleset xor-laws = (xor-assoc, xor-comm, xor-left-comm, xor-self, xor-cancel-left, xor-zero-left, xor-zero-right)
 
-pub xor-cancel : (a b c : ℕ) → a ⊕ b ≡ a ⊕ c → b ≡ c
-xor-cancel a b c e = sym (xor-cancel-left a b) ∙ ap (λ (x : ℕ). a ⊕ x) e ∙ xor-cancel-left a c
-
 pub xor-zero→eq : (a b : ℕ) → a ⊕ b ≡ 0 → a ≡ b
 xor-zero→eq a b e = sym (xor-zero-right a) ∙ ap (λ (x : ℕ). a ⊕ x) (sym e) ∙ xor-cancel-left a b
 

@@ -9,7 +9,6 @@ use modulus::field_of;
 use modulus::is_symbol;
 use modulus::modulus_refusal;
 use products::mul;
-ghost use mathlib.Core.Path.{_≡_};
 ghost use Rattle.lists.specs.Answers.{Answers};
 ghost use Rattle.field.specs.Binary.{_⊕_, product};
 ghost use Rattle.field.specs.Calls.{fieldChecks, Told};

@@ -2,7 +2,6 @@
 use super::Field;
 use super::division::degree_of;
 use super::division::divide;
-ghost use mathlib.Core.Path.{_≡_};
 ghost use Prim.Native.Nat.{_<_, _≤_, _^_};
 ghost use Rattle.lists.specs.All.{Below};
 ghost use Rattle.lists.specs.Answers.{Answers};

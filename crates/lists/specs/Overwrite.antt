@@ -1,12 +1,12 @@
 -- Laws on lists for a loop that overwrites a list from the front. Assumes nothing.
 use mathlib.Core.Path.{_≡_, refl, sym, ap, _∙_}
-use mathlib.Core.List.{List, [], _∷_, _++_, append-nil, append-assoc, zipWith}
+use mathlib.Core.List.{List, [], _∷_, _++_, append-nil, zipWith}
 use Prim.Native.Nat.{ℕ, zero, suc, _+_, _-_, _*_, _≤_, _<_}
 use native.Mathlib.Nat.{suc-mul}
 use native.Mathlib.Omega.{arith}
 use native.Mathlib.Numerals.{add-one}
-use lib.ListN.{length, take, drop, getD, set, length-append, length-take, length-drop, length-set, drop-of-length-le, take-append-drop, List·getD-append}
-use lib.Seq.{set-append-left, take-at, drop-at, take-all, take-append-le, drop-append-le, length-take-le, getD-take, getD-drop}
+use lib.ListN.{length, take, drop, getD, set, length-append, length-take, length-drop, drop-of-length-le, take-append-drop}
+use lib.Seq.{take-at, drop-at, take-all, take-append-le, drop-append-le, length-take-le, getD-take, getD-drop}
 use borrow.Rule.Slice.PartMut.{putMid, same-len-mid}
 
 -- the first i elements of `new`, and the rest of `old`
@@ -47,11 +47,6 @@ set-mix-suc (suc i) (x ∷ new) (y ∷ old) e h = ap (λ (l : List ℕ). x ∷ l
 pub set-mix : (i : ℕ) (new old : List ℕ) → i < length new → i < length old → set (mix i new old) i (getD new i 0) ≡ mix (i + 1) new old
 set-mix i new old e h = rw (add-one i) (set-mix-suc i new old e h)
 
--- the overwritten part, once `new` is used up
-pub take-mix : (i : ℕ) (new old : List ℕ) → length new ≡ i → take i (mix i new old) ≡ new
-unfolding mix
-take-mix i new old e = rw (take-all i new (omega arith)) (take-at new (drop i old) i e)
-
 pub mix-whole : (i : ℕ) (new old : List ℕ) → length new ≡ i → mix i new old ≡ new ++ drop i old
 unfolding mix
 mix-whole i new old e = rw (take-all i new (omega arith))
@@ -86,46 +81,6 @@ getD-zipWith f (x ∷ xs) [] i p q = absurd (omega arith)
 getD-zipWith f (x ∷ xs) (y ∷ ys) zero p q = refl
 getD-zipWith f (x ∷ xs) (y ∷ ys) (suc i) p q = getD-zipWith f xs ys i (omega arith) (omega arith)
 
--- ---- two halves of n elements each, both overwritten up to i
-
-unfoldable pub halves : ℕ → List ℕ → List ℕ → List ℕ → List ℕ → List ℕ
-halves i new new′ old old′ = mix i new old ++ mix i new′ old′
-
-module _ (n : ℕ) (new new′ old old′ : List ℕ) (ln : length new ≡ n) (ln′ : length new′ ≡ n) (lo : length old ≡ n) (lo′ : length old′ ≡ n) where
-  pub halves-none : halves 0 new new′ old old′ ≡ old ++ old′
-  unfolding halves
-  halves-none = rw (mix-none new old, mix-none new′ old′)
-
-  pub halves-all : halves n new new′ old old′ ≡ new ++ new′
-  unfolding halves
-  halves-all = rw (mix-all n new old ln lo, mix-all n new′ old′ ln′ lo′)
-
-  module _ (i : ℕ) (h : i < n) where
-    length-first : length (mix i new old) ≡ n
-    length-first = length-mix i new old (ln ∙ sym lo) ∙ lo
-
-    pub read-first : getD (halves i new new′ old old′) i 0 ≡ getD old i 0
-    unfolding halves
-    read-first =
-        List·getD-append (mix i new old) (mix i new′ old′) 0 i (omega (arith, length-first))
-        ∙ mix-at i new old (omega arith) (omega arith)
-
-    pub read-second : getD (halves i new new′ old old′) (n + i) 0 ≡ getD old′ i 0
-    unfolding halves
-    read-second =
-        getD-append-at (mix i new old) (mix i new′ old′) i (n + i) (omega (arith, length-first))
-        ∙ mix-at i new′ old′ (omega arith) (omega arith)
-
-    pub halves-turn : set (set (halves i new new′ old old′) i (getD new i 0)) (n + i) (getD new′ i 0) ≡ halves (i + 1) new new′ old old′
-    unfolding halves
-    halves-turn =
-        rw (
-          set-append-left (mix i new old) (mix i new′ old′) i (getD new i 0) (omega (arith, length-first)),
-          set-append-at (set (mix i new old) i (getD new i 0)) (mix i new′ old′) i (n + i) (getD new′ i 0) (omega (arith, length-first, length-set (mix i new old) i (getD new i 0))),
-          set-mix i new old (omega arith) (omega arith),
-          set-mix i new′ old′ (omega arith) (omega arith),
-        )
-
 -- ---- a slice of 2n elements whose two halves are lent one after the other
 
 module _ (n : ℕ) (xs first : List ℕ) (lf : length first ≡ n) (lx : length xs ≡ n + n) where
@@ -153,24 +108,12 @@ mul-next r p = rw (add-one r, suc-mul r p)
 pub length-put : (a k : ℕ) (xs ys : List ℕ) → a + k ≤ length xs → length ys ≡ k → length (putMid a k xs ys) ≡ length xs
 length-put a k xs ys h e = same-len-mid a k xs ys (e ∙ sym (length-take-le k (drop a xs) (omega (arith, length-drop a xs))))
 
--- what is written up to the end of the part
-pub take-put-end : (a k : ℕ) (xs ys : List ℕ) → a ≤ length xs → length ys ≡ k → take (a + k) (putMid a k xs ys) ≡ take a xs ++ ys
-take-put-end a k xs ys h e =
-    rw (← append-assoc (take a xs) ys (drop k (drop a xs)))
-    (take-at (take a xs ++ ys) (drop k (drop a xs)) (a + k) (length-append (take a xs) ys ∙ omega (arith, length-take-le a xs h)))
-
 -- the same for a part from a to a + k, as the code cuts it
 pub length-cut : (a k : ℕ) (xs : List ℕ) → a + k ≤ length xs → length (take (a + k - a) (drop a xs)) ≡ k
 length-cut a k xs h = simp (length-take, length-drop) (omega arith)
 
 pub getD-cut : (a k : ℕ) (xs : List ℕ) (i : ℕ) → i < k → getD (take (a + k - a) (drop a xs)) i 0 ≡ getD xs (a + i) 0
 getD-cut a k xs i h = getD-take (a + k - a) (drop a xs) i 0 (omega arith) ∙ getD-drop a xs i 0
-
-pub length-put-cut : (a k : ℕ) (xs ys : List ℕ) → a + k ≤ length xs → length ys ≡ k → length (putMid a (a + k - a) xs ys) ≡ length xs
-length-put-cut a k xs ys h e = let count : a + k - a ≡ k = omega arith in rw count (length-put a k xs ys h e)
-
-pub take-put-cut : (a k : ℕ) (xs ys : List ℕ) → a + k ≤ length xs → length ys ≡ k → take (a + k) (putMid a (a + k - a) xs ys) ≡ take a xs ++ ys
-take-put-cut a k xs ys h e = let count : a + k - a ≡ k = omega arith in rw count (take-put-end a k xs ys (omega arith) e)
 
 -- a copy over a whole list
 pub copy-whole : (new old : List ℕ) → length new ≡ length old → new ++ drop (length new) old ≡ new

@@ -11,7 +11,7 @@ use lib.Pow.{pow-mono}
 use lib.Seq.{ext-getD, drop-drop, getD-drop, take-all}
 use Rattle.lists.specs.All.{All, Below, IsZero}
 use Rattle.lists.specs.Stretch.{Apart, stretch, length-stretch, getD-stretch}
-use Rattle.field.specs.Binary.{degree, product, Irreducible}
+use Rattle.field.specs.Binary.{degree, Irreducible}
 use Rattle.field.specs.Laws.{Ops, IsField, ring, 0-⊗, ⊕-0}
 use Rattle.field.specs.Products.{accumulated}
 use Rattle.field.specs.Product.{positive}

@@ -4,7 +4,7 @@
 use field::Field;
 ghost use mathlib.Core.Path.{_≡_};
 ghost use Prim.Native.Nat.{_+_, _/_, _^_, _≤_, _<_};
-ghost use lib.ListN.{length, take};
+ghost use lib.ListN.{length};
 ghost use Rattle.lists.specs.All.{Below};
 ghost use Rattle.field.specs.Binary.{degree, Irreducible};
 ghost use Rattle.field.specs.Products.{Sized};

@@ -1,13 +1,13 @@
 -- The basis of Lin, Chung and Han for polynomials: coefficient i goes with the product of the normalised subspace polynomials of the digits of i that are 1.
 use mathlib.Core.Path.{_≡_, refl, sym, ap, ap₂, _∙_, subst}
 use mathlib.Core.Logic.{_≢_, _↔_}
-use mathlib.Core.List.{List, [], _∷_, _++_, map}
+use mathlib.Core.List.{List, [], _∷_, map}
 use Prim.Native.Nat.{ℕ, zero, suc, _+_, _-_, _^_, _/_, _%_, _≤_, _<_}
 use native.Mathlib.Decide.{decLt}
 use native.Mathlib.Nat.{le-refl}
 use native.Mathlib.Omega.{arith}
 use lib.ListN.{length, getD, take, drop}
-use lib.Seq.{take-at, drop-at, split-at, drop-cons, take-suc}
+use lib.Seq.{split-at, drop-cons, take-suc}
 use Rattle.field.specs.Laws.{Ops, IsField, ring, sums, ⊕-assoc, ⊕-0, 0-⊕, ⊕-⊗, 0-⊗, ⊗-0, ⊕-zero}
 use Rattle.lists.specs.All.{All, All-take, All-drop, All-at}
 use Rattle.poly.specs.Poly.{addP, scaleP, take-addP, drop-addP, take-scaleP, drop-scaleP}
@@ -140,11 +140,6 @@ module _ {K : Ops} (F : IsField K) where
     -- A basis is dependent exactly when a step is 0
     pub independent-iff : All Sym bs → Independent K bs ↔ ((j : ℕ) → j < length bs → step K bs j ≢ 0)
     independent-iff sb = (W-next sb, λ nz. low-independent nz (length bs) (le-refl (length bs)))
-
-    -- The value, from the two halves of the coefficients
-    pub evalX-halves : (j : ℕ) (lo hi : List ℕ) (x : ℕ) → length lo ≡ 2 ^ j → evalX K bs (suc j) (lo ++ hi) x ≡ evalX K bs j lo x ⊕ image K bs j x ⊗ evalX K bs j hi x
-    evalX-halves j lo hi x e =
-        ap₂ (λ (p q : List ℕ). evalX K bs j p x ⊕ image K bs j x ⊗ evalX K bs j q x) (take-at lo hi (2 ^ j) e) (drop-at lo hi (2 ^ j) e)
 
     head-addP : (d e : List ℕ) → getD (addP K d e) 0 0 ≡ getD d 0 0 ⊕ getD e 0 0
     head-addP [] e = sym (0-⊕ F (getD e 0 0))

@@ -213,15 +213,6 @@ module _ {K : Ops} (F : IsField K) where
     shifted-sym : (j : ℕ) → j < m → (v : ℕ → ℕ) → ((i : ℕ) → i < suc j → Sym (v i)) → (i : ℕ) → i < j → Sym (shifted K T j v i)
     shifted-sym j hj v sv i h = F .sym-sum (sv i (omega arith)) (table j i hj (omega arith))
 
-    pub transform-sym : (j : ℕ) → j ≤ m → (v : ℕ → ℕ) (d : List ℕ) → ((i : ℕ) → i < j → Sym (v i)) → All Sym d → All Sym (transform K T j v d)
-    transform-sym zero hj v d sv sd = sd
-    transform-sym (suc j) hj v d sv sd =
-        let a : List ℕ = folded K j (v j) d in
-        let b : List ℕ = addP K (folded K j (v j) d) (drop (2 ^ j) d) in
-        All-append Sym (transform K T j v a) (transform K T j (shifted K T j v) b)
-        (transform-sym j (omega arith) v a (λ i h. sv i (omega arith)) (folded-sym j (v j) d (sv j (omega arith)) sd))
-        (transform-sym j (omega arith) (shifted K T j v) b (shifted-sym j hj v sv) (upper-sym j (v j) d (sv j (omega arith)) sd))
-
     pub inverse-sym : (j : ℕ) → j ≤ m → (v : ℕ → ℕ) (g : List ℕ) → ((i : ℕ) → i < j → Sym (v i)) → All Sym g → All Sym (inverse K T j v g)
     inverse-sym zero hj v g sv sg = sg
     inverse-sym (suc j) hj v g sv sg =

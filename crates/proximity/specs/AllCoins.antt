@@ -1,5 +1,5 @@
 -- A pair of a word and a proof is accepted at all coins exactly when it is the word and the proof of a polynomial of degree below n/8.
-use mathlib.Core.Path.{_≡_, refl, sym, _∙_, subst₂}
+use mathlib.Core.Path.{_≡_, refl, sym, subst₂}
 use mathlib.Core.Logic.{_↔_}
 use mathlib.Core.List.{List, [], _∷_}
 use Prim.Native.Nat.{ℕ, _+_, _^_, _≤_, _<_, max}
@@ -10,7 +10,7 @@ use lib.ListN.{length}
 use lib.Pow.{pow-pos}
 use Rattle.lists.specs.Tables.{length-tab}
 use Rattle.field.specs.Laws.{Ops, IsField}
-use Rattle.poly.specs.Codeword.{Basis, decode-unique}
+use Rattle.poly.specs.Codeword.{Basis}
 use Rattle.proximity.specs.Dim.{half, rowDim, colDim, Dim, leaf, node, size, coinBits}
 use Rattle.proximity.specs.Spaces.{rowBasis, colBasis}
 use Rattle.proximity.specs.Proof.{row, column, rowProof, colProof, Honest}
@@ -92,7 +92,3 @@ module _ {K : Ops} (F : IsField K) where
   pub all-coins : {k : ℕ} (d : Dim k) (b w π : List ℕ) → Basis K k b → length w ≡ 2 ^ k → length π ≡ size d
       → ((coin : ℕ) → coin < 2 ^ coinBits d → Accepts K d b w π coin) ↔ ((P : List ℕ) × Honest K d b w π P)
   all-coins d b w π B lw lπ = (sound d b w π B lw lπ, λ H coin h. accepts-at d b w π (H .0) B (H .1) coin)
-
-  -- A pair is that of one polynomial only
-  pub honest-unique : {k : ℕ} (d : Dim k) (b w π P Q : List ℕ) → Basis K k b → Honest K d b w π P → Honest K d b w π Q → P ≡ Q
-  honest-unique {k} d b w π P Q B H J = decode-unique F k b B P Q (H .count) (J .count) (H .elements) (J .elements) (sym (H .word) ∙ J .word)

@@ -13,7 +13,6 @@ use Rattle.poly.specs.Span.{elem}
 use Rattle.poly.specs.Interpolate.{Through, interpolate}
 use Rattle.poly.specs.Codeword.{Basis, basis-distinct}
 use Rattle.proximity.specs.Dim.{half, colDim}
-use Rattle.proximity.specs.Spaces.{q, β}
 use Rattle.proximity.specs.Bivariate.{atX, atY, wide}
 use Rattle.proximity.specs.Proof.{heightOf}
 use Rattle.proximity.specs.Subspaces.{pow-four}

@@ -17,7 +17,7 @@ use Rattle.field.specs.Laws.{Ops, IsField}
 use Rattle.field.specs.Symbols.{symbols, symbols-field}
 use Rattle.poly.specs.Span.{bitOf, elem, elem-sym}
 use Rattle.poly.specs.Novel.{image, elem-image}
-use Rattle.poly.specs.Tower.{images, length-images, image-table, image-take, image-append}
+use Rattle.poly.specs.Tower.{length-images, image-table, image-take, image-append}
 use Rattle.poly.specs.Codeword.{Basis}
 use Rattle.space.specs.Images.{Images}
 use Rattle.space.specs.Setting.{maxDim}

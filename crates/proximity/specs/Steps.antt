@@ -1,15 +1,14 @@
 -- The definitions at dimension k, one step each: nothing below k ≤ 6, and at k ≥ 7 the rows and the columns at their own dimensions.
 use mathlib.Core.Path.{_≡_, ap, _∙_}
-use mathlib.Core.List.{List, [], _++_, map}
+use mathlib.Core.List.{List, [], map}
 use Prim.Native.Nat.{ℕ, _+_, _^_, _≤_, _<_}
-use Rattle.lists.specs.Tables.{tab, flat}
+use Rattle.lists.specs.Tables.{tab}
 use Rattle.field.specs.Laws.{Ops}
 use Rattle.poly.specs.Codeword.{Codeword}
 use Rattle.proximity.specs.Dim.{half, rowDim, colDim, Dim, dim, S}
 use Rattle.proximity.specs.Tree.{dim-leaf, dim-node}
 use Rattle.proximity.specs.Spaces.{rowBasis, colBasis}
-use Rattle.proximity.specs.Bivariate.{bivariate}
-use Rattle.proximity.specs.Proof.{row, column, rowProof, colProof, rowPoly, colPoly, stored, proofOf}
+use Rattle.proximity.specs.Proof.{row, column, rowProof, colProof}
 use Rattle.proximity.specs.declared.Line.{Line}
 use Rattle.proximity.specs.declared.Line.the-variants.{Row, Column}
 use Rattle.proximity.specs.declared.Place.{Place}
@@ -63,14 +62,3 @@ module _ (k : ℕ) where
   pub positions-column : 7 ≤ k → (coin a : ℕ) → lineOf k coin ≡ Column a
       → positions (dim k) coin ≡ map (colPlace k (S (rowDim k)) (S (colDim k)) a) (positions (dim (colDim k)) (bitsLeft k coin))
   positions-column s coin a e = positions-line s coin (Column a) e
-
-module _ (K : Ops) (k : ℕ) (b P : List ℕ) where
-  pub proof-leaf : k ≤ 6 → proofOf K (dim k) b P ≡ []
-  proof-leaf s = ap (λ (d : Dim k). proofOf K d b P) (dim-leaf k s)
-
-  pub proof-node : 7 ≤ k
-      → proofOf K (dim k) b P
-      ≡ flat (2 ^ colDim k) (stored K k b (bivariate K k b P))
-      ++ flat (2 ^ colDim k) (λ r. proofOf K (dim (rowDim k)) (rowBasis K k b r) (rowPoly K k b (bivariate K k b P) r))
-      ++ flat (2 ^ (half k + 2)) (λ a. proofOf K (dim (colDim k)) (colBasis K k b) (colPoly K k b (bivariate K k b P) a))
-  proof-node s = ap (λ (d : Dim k). proofOf K d b P) (dim-node k s)

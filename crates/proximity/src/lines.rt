@@ -9,13 +9,6 @@ ghost use Rattle.proximity.specs.Proof.{slot};
 ghost use Rattle.proximity.specs.Verifier.{lineOf, bitsLeft};
 ghost use Rattle.proximity.specs.ByLine.{InRange, lineDim, proofAt, proofEnd};
 
-// h, the dimension of a block.
-pub fn half(k: usize) -> usize
-    ensures { λ r. ⌜ r ≡ half k ⌝ }
-{
-    k / 2
-}
-
 // How many symbols a block has.
 pub fn block_size(k: usize) -> usize
     requires { ⌜ k ≤ maxDim ⌝ }

@@ -66,18 +66,3 @@ pub fn place(k: usize, coin: u64, i: usize) -> Place
     let inner = place(line_dimension(k, line), rest_of(k, coin), i);
     line_place(k, line, inner)
 }
-
-// How many symbols a coin reads.
-pub fn reads_of(k: usize, coin: u64) -> usize
-    requires { ⌜ k ≤ maxDim ⌝ }
-    ensures { λ r. ⌜ r ≡ length (positions (dim k) coin) ⌝ }
-{
-    let mut d = k;
-    let mut rest = coin;
-    while 6 < d {
-        let line = line_of(d, rest);
-        rest = rest_of(d, rest);
-        d = line_dimension(d, line);
-    }
-    1usize << d
-}

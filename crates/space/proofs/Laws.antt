@@ -7,12 +7,11 @@ use lib.ListN.{getD}
 use lib.Pow.{pow-pos}
 use Rattle.lists.specs.All.{Below, All-at}
 use Rattle.field.specs.Binary.{_⊕_, degree, product}
-use Rattle.field.specs.Xor.{xor-below}
 use Rattle.field.specs.Degree.{degree-positive-number}
 use Rattle.field.specs.Product.{product-below}
 use Rattle.field.specs.Products.{Sized}
 use Rattle.field.specs.declared.Field.{Field}
-use Rattle.space.specs.Values.{valueAt, imageAt}
+use Rattle.space.specs.Values.{valueAt}
 
 -- the modulus of a field is not 0
 pub sized-positive : {f : Field} → Sized f → 0 < f .modulus

@@ -1,15 +1,15 @@
 -- Element i of a span, one basis element after the other. Assumes nothing.
-use mathlib.Core.Path.{_≡_, refl, sym, ap, ap₂, _∙_}
+use mathlib.Core.Path.{_≡_, sym, ap, ap₂, _∙_}
 use mathlib.Core.List.{List, [], _∷_, _++_}
-use Prim.Native.Nat.{ℕ, zero, suc, _+_, _*_, _/_, _%_, _^_, _≤_, _<_}
+use Prim.Native.Nat.{ℕ, zero, suc, _+_, _*_, _/_, _%_, _^_, _<_}
 use native.Mathlib.Nat.{zero-mul, one-mul, div-one}
 use native.Mathlib.Numerals.{add-one}
 use native.Mathlib.Omega.{arith}
 use lib.ListN.{length, getD, take}
 use lib.Pow.{shr-shr}
-use lib.Seq.{take-suc, take-all, length-take-le}
+use lib.Seq.{take-suc, length-take-le}
 use Rattle.field.specs.Binary.{_⊕_}
-use Rattle.field.specs.Xor.{xor-laws, xor-zero-left, xor-zero-right, xor-assoc}
+use Rattle.field.specs.Xor.{xor-zero-left, xor-zero-right, xor-assoc}
 use Rattle.field.specs.Symbols.{symbols}
 use Rattle.poly.specs.Span.{elem, bitOf}
 

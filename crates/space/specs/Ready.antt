@@ -1,14 +1,12 @@
 -- What a caller of `check` knows: of a setting that passed, and of a refusal. Assumes nothing.
-use mathlib.Core.Path.{_≡_, refl, sym, ap, _∙_, subst}
+use mathlib.Core.Path.{_≡_, refl, sym, subst}
 use mathlib.Core.Logic.{inl, inr}
 use mathlib.Core.List.{List}
-use Prim.Native.Nat.{ℕ, _^_, _≤_, _<_}
-use native.Mathlib.Nat.{lt-of-lt-of-le}
+use Prim.Native.Nat.{ℕ, _^_, _<_}
 use native.Mathlib.Omega.{arith}
 use lib.ListN.{length}
-use lib.Pow.{pow-mono}
 use Rattle.lists.specs.All.{Below}
-use Rattle.lists.specs.Answers.{Answers, Passes}
+use Rattle.lists.specs.Answers.{Answers}
 use Rattle.lists.specs.Tables.{All-tab}
 use Rattle.field.specs.Binary.{degree}
 use Rattle.field.specs.Checks.{degree-range}
@@ -17,7 +15,7 @@ use Rattle.field.specs.Products.{Sized}
 use Rattle.field.specs.Symbols.{symbols}
 use Rattle.poly.specs.Novel.{step, step-sym}
 use Rattle.space.specs.Images.{Images}
-use Rattle.space.specs.Setting.{settingChecks, settingOf, noSetting, paddedOf, stepsOf, inversesOf, Settled}
+use Rattle.space.specs.Setting.{settingChecks, settingOf, stepsOf, inversesOf, Settled}
 use Rattle.space.specs.Sound.{Sound, sound, sound-field}
 use Rattle.space.specs.Table.{sound-images}
 use Rattle.space.specs.declared.Checked.{Checked}

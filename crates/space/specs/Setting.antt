@@ -3,7 +3,7 @@ use mathlib.Core.Path.{_≡_}
 use mathlib.Core.Logic.{_⊎_}
 use mathlib.Core.Bool.{true, false}
 use mathlib.Core.List.{List, [], _∷_, _++_}
-use Prim.Native.Nat.{ℕ, zero, suc, _/_, _%_, _^_, _<_}
+use Prim.Native.Nat.{ℕ, _/_, _%_, _^_, _<_}
 use lib.ListN.{length, getD, replicate}
 use Rattle.lists.specs.All.{Below}
 use Rattle.lists.specs.Answers.{Checks, Passes, Refuses}
@@ -12,7 +12,6 @@ use Rattle.field.specs.Binary.{degree}
 use Rattle.field.specs.Checks.{modulusChecks}
 use Rattle.field.specs.Laws.{Ops}
 use Rattle.field.specs.Symbols.{symbols}
-use Rattle.field.specs.declared.Field.{Field}
 use Rattle.poly.specs.Span.{Independent}
 use Rattle.poly.specs.Novel.{step, image}
 use Rattle.space.specs.declared.Tables.{Tables}

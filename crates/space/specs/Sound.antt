@@ -1,20 +1,20 @@
 -- A setting is sound when it passes checks 1 to 5: what that says. Assumes nothing.
 use mathlib.Core.Path.{_≡_, refl}
 use mathlib.Core.Logic.{_⊎_, inl, inr, _↔_}
-use mathlib.Core.List.{List, [], _∷_, _++_}
+use mathlib.Core.List.{List, _++_}
 use Prim.Native.Nat.{ℕ, _^_, _≤_, _<_}
 use native.Mathlib.Decide.{ℕ-discrete}
 use native.Mathlib.Omega.{arith}
 use lib.ListN.{length}
 use Rattle.lists.specs.All.{Below, below-stable}
-use Rattle.lists.specs.Answers.{Answers, Passes, Numbered, answers-after, passes-each}
+use Rattle.lists.specs.Answers.{Passes, Numbered, answers-after, passes-each}
 use Rattle.field.specs.Binary.{degree}
 use Rattle.field.specs.Calls.{modulus-numbered}
 use Rattle.field.specs.Checks.{modulusChecks, GoodModulus, modulus-passed, good-passes}
-use Rattle.field.specs.Laws.{Ops, IsField}
+use Rattle.field.specs.Laws.{IsField}
 use Rattle.field.specs.Symbols.{symbols, symbols-field}
 use Rattle.poly.specs.Codeword.{Basis}
-use Rattle.poly.specs.Span.{Independent, elem}
+use Rattle.poly.specs.Span.{Independent}
 use Rattle.space.specs.Setting.{maxDim, basisChecks, spanChecks, settingChecks}
 
 pub record Sound (m : ℕ) (bs : List ℕ) : Type 0 where

@@ -3,13 +3,13 @@ use mathlib.Core.Path.{_≡_, ap₂, _∙_}
 use mathlib.Core.List.{List}
 use Prim.Native.Nat.{ℕ, _+_, _*_, _/_, _%_, _<_}
 use native.Mathlib.Omega.{arith}
-use lib.ListN.{length, getD}
-use Rattle.lists.specs.Tables.{tab, length-tab, getD-tab, All-tab}
+use lib.ListN.{getD}
+use Rattle.lists.specs.Tables.{length-tab, getD-tab, All-tab}
 use Rattle.field.specs.Laws.{IsField}
 use Rattle.field.specs.Symbols.{symbols}
 use Rattle.poly.specs.Novel.{image, image-sym, getD-sym}
 use Rattle.space.specs.Images.{Images}
-use Rattle.space.specs.Setting.{maxDim, imagesOf}
+use Rattle.space.specs.Setting.{imagesOf}
 use Rattle.space.specs.Sound.{Sound, sound-field}
 
 pub sound-images : {m : ℕ} {bs : List ℕ} → Sound m bs → Images (symbols m) bs (imagesOf (symbols m) bs)

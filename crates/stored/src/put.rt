@@ -1,5 +1,5 @@
 // Numbers and records written into bytes.
-ghost use mathlib.Core.List.{[], _∷_, _++_};
+ghost use mathlib.Core.List.{_∷_};
 ghost use Prim.Native.Nat.{_+_, _*_, _≤_, _<_};
 ghost use lib.ListN.{length};
 ghost use Rattle.stored.specs.Bytes.{twoBytes, fourBytes, pairs};

@@ -5,7 +5,6 @@ use field::modulus;
 use proximity::tables;
 use space::Checked;
 ghost use mathlib.Core.Path.{_≡_};
-ghost use mathlib.Core.List.{_++_};
 ghost use Prim.Native.Nat.{_+_, _*_, _^_, _≤_, _<_};
 ghost use lib.ListN.{length, take};
 ghost use Rattle.lists.specs.All.{Below};
@@ -15,7 +14,7 @@ ghost use Rattle.field.specs.Binary.{degree};
 ghost use Rattle.field.specs.Products.{Sized};
 ghost use Rattle.space.specs.Setting.{maxDim, SettledBy};
 ghost use Rattle.stored.specs.Bytes.{numbersAt};
-ghost use Rattle.stored.specs.File.{wordRecordAt, modulusIn, dimIn, basisIn};
+ghost use Rattle.stored.specs.File.{wordRecordAt, modulusIn, basisIn};
 ghost use Rattle.stored.specs.Reader.{headChecks, settingChecks, recordChecks, symbolChecks};
 
 // The checks of a setting record up to the presence of its basis.

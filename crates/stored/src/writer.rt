@@ -3,7 +3,6 @@ use field::Field;
 use field::modulus;
 use proximity::tables;
 ghost use Prim.Native.Nat.{_≤_};
-ghost use lib.ListN.{length};
 ghost use Rattle.lists.specs.Answers.{Answers};
 ghost use Rattle.field.specs.Products.{Sized};
 ghost use Rattle.space.specs.Setting.{maxDim};

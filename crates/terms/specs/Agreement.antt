@@ -9,7 +9,7 @@ use Rattle.field.specs.Symbols.{symbols}
 use Rattle.poly.specs.Codeword.{wordOf, decode-unique}
 use Rattle.space.specs.Setting.{settingChecks}
 use Rattle.space.specs.Sound.{Sound, sound, sound-field, setting-numbered}
-use Rattle.codec.specs.Calls.{lengthChecks, symbolChecks, wordChecks, encodeChecks, decodeChecks, Encoded, CoefficientsOf, Decoded}
+use Rattle.codec.specs.Calls.{lengthChecks, wordChecks, encodeChecks, decodeChecks, Encoded, CoefficientsOf, Decoded}
 use Rattle.codec.specs.declared.Outcome.{Outcome}
 use Rattle.codec.specs.declared.Outcome.the-variants.{Done}
 use Rattle.prover.specs.Calls as calls

@@ -11,7 +11,7 @@ use Rattle.field.specs.Symbols.{symbols}
 use Rattle.space.specs.Setting.{settingChecks}
 use Rattle.proximity.specs.Dim.{dim, S}
 use Rattle.proximity.specs.Reads.{same-reads}
-use Rattle.proximity.specs.Verifier.{Accepts, positions}
+use Rattle.proximity.specs.Verifier.{Accepts}
 use Rattle.verifier.specs.Checker.{symbolsAt, deliveryChecks, checkerChecks, Answered, Told}
 use Rattle.verifier.specs.declared.Verdict.{Verdict}
 use Rattle.verifier.specs.declared.Verdict.the-variants.{Accept, Reject, Refused}

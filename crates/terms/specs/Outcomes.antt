@@ -4,7 +4,6 @@ use mathlib.Core.List.{List}
 use Prim.Native.Nat.{ℕ, _<_}
 use native.Mathlib.Decide.{decLt}
 use native.Mathlib.Omega.{arith}
-use lib.ListN.{length}
 use Rattle.lists.specs.Answers.{Checks, Passes, Refuses, answers-one}
 use Rattle.lists.specs.Calls.{RefusedWith}
 use Rattle.codec.specs.Calls.{Told}

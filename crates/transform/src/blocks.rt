@@ -10,8 +10,6 @@ ghost use mathlib.Core.Logic.{_↔_};
 ghost use Prim.Native.Nat.{ℕ, _/_, _<_, _≤_, _^_};
 ghost use lib.ListN.{length, getD, take};
 ghost use Rattle.lists.specs.Decides.{Decides};
-ghost use Rattle.lists.specs.All.{Below};
-ghost use Rattle.field.specs.Binary.{degree};
 ghost use Rattle.transform.specs.Spans.{Zeros};
 ghost use Rattle.transform.specs.Blocks.{InBlocks, BlocksInterpolated, BlocksEvaluated, EqualLanes, Tested, TestedLanes};
 

@@ -3,12 +3,8 @@ pub mod blocks;
 pub mod gather;
 pub mod parts;
 
-use field::modulus;
 use proximity::tables;
-use space::Space;
-ghost use mathlib.Core.Path.{_≡_};
-ghost use Prim.Native.Nat.{_≤_, _^_};
-ghost use lib.ListN.{length};
+ghost use Prim.Native.Nat.{_≤_};
 ghost use Rattle.lists.specs.Answers.{Answers};
 ghost use Rattle.space.specs.Setting.{maxDim};
 ghost use Rattle.verifier.specs.Checker.{deliveryChecks, Told};

@@ -1,9 +1,6 @@
 -- `setting_cases::show_value` meets its contract: a setting that passed has symbols for steps. Assumes nothing.
-use mathlib.Core.Path.{subst, sym}
 use native.Mathlib.Omega.{arith}
-use Rattle.lists.specs.All.{Below}
 use Rattle.lists.specs.Decides.{decides-true}
-use Rattle.field.specs.Binary.{degree}
 use Rattle.space.specs.Ready.{Ready, ready, steps-below}
 use borrow.Author.Needs.{needs}
 use Rattle.setting_cases.proofs.show_value.Statement.{statement}

@@ -1,14 +1,13 @@
 -- `space::check` meets its contract. Assumes nothing.
-use mathlib.Core.Path.{_≡_, refl, sym, ap, subst, _∙_}
-use mathlib.Core.Logic.{_⊎_, inl, inr}
+use mathlib.Core.Path.{_≡_, sym, subst}
+use mathlib.Core.Logic.{inl, inr}
 use mathlib.Core.List.{List, _++_}
-use Prim.Native.Nat.{ℕ, _<_}
+use Prim.Native.Nat.{ℕ}
 use native.Mathlib.Omega.{arith}
-use Rattle.lists.specs.All.{Below}
 use Rattle.lists.specs.Answers.{Answers, Passes, answers-after, refused-first}
-use Rattle.field.specs.Binary.{degree, Irreducible}
+use Rattle.field.specs.Binary.{Irreducible}
 use Rattle.field.specs.Checks.{modulusChecks}
-use Rattle.space.specs.Setting.{basisChecks, spanChecks, settingChecks, SettledBy, Made, Settled}
+use Rattle.space.specs.Setting.{basisChecks, spanChecks, settingChecks, Made, Settled}
 use Rattle.space.specs.Sound.{Bounded, bounded, four-numbered}
 use Rattle.space.specs.declared.Checked.{Checked}
 use borrow.Author.Needs.{needs}

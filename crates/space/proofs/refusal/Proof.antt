@@ -1,5 +1,5 @@
 -- `space::refusal` meets its contract. Assumes nothing.
-use mathlib.Core.Path.{_≡_, subst}
+use mathlib.Core.Path.{subst}
 use Prim.Native.Nat.{ℕ}
 use native.Mathlib.Omega.{arith}
 use Rattle.lists.specs.Answers.{Answers, Passes, answers-after, refused-first}

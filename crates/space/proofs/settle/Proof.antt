@@ -1,16 +1,14 @@
 -- `space::settle` meets its contract. Assumes nothing.
-use mathlib.Core.Path.{_≡_, refl, sym, ap}
-use mathlib.Core.Logic.{_⊎_, inl, inr, ⊎-elim}
-use mathlib.Core.Bool.{Bool, true, false}
+use mathlib.Core.Path.{_≡_, refl, ap}
+use mathlib.Core.Logic.{inl, inr}
+use mathlib.Core.Bool.{true, false}
 use mathlib.Core.List.{List}
 use Prim.Native.Nat.{ℕ}
 use native.Mathlib.Omega.{arith}
 use Rattle.lists.specs.Decides.{true-not-false}
 use lib.ListN.{length}
 use Rattle.field.specs.Products.{Sized}
-use Rattle.field.specs.Symbols.{symbols}
 use Rattle.field.specs.declared.Field.{Field}
-use Rattle.poly.specs.Span.{Independent}
 use Rattle.space.specs.Setting.{Tabled, Made, tablesOf, noTables, paddedOf, settingOf, noSetting}
 use Rattle.space.specs.declared.Tables.{Tables}
 use Rattle.space.specs.declared.Checked.{Checked}

@@ -1,21 +1,16 @@
 -- `space::tabulate` meets its contract. The loop's invariant: the tables hold what belongs to the first i basis elements. Assumes nothing.
-use mathlib.Core.Path.{_≡_, refl, sym, ap, ap₂, _∙_, subst}
-use mathlib.Core.Logic.{_≢_, inl, inr}
+use mathlib.Core.Path.{_≡_, sym, _∙_, subst}
 use mathlib.Core.List.{List}
-use Prim.Native.Nat.{ℕ, _+_, _-_, _*_, _≤_, _<_, _^_}
+use Prim.Native.Nat.{ℕ, _-_, _≤_, _<_, _^_}
 use native.Mathlib.Omega.{arith}
-use lib.ListN.{length, getD, replicate}
+use lib.ListN.{length}
 use borrow.Author.Needs.{needs}
 use Rattle.lists.specs.All.{Below, All-inside}
-use Rattle.lists.specs.Filled.{Filled}
 use Rattle.field.specs.Binary.{degree, Irreducible}
 use Rattle.field.specs.Symbols.{symbols, symbols-field}
-use Rattle.poly.specs.Span.{Independent}
-use Rattle.poly.specs.Novel.{step, independent-iff, step-sym}
-use Rattle.space.specs.declared.Tables.{Tables}
-use Rattle.space.specs.Values.{valueAt, imageAt}
-use Rattle.space.specs.Setting.{noTables, tablesOf}
-use Rattle.space.proofs.Progress.{SoFar, so-far-start, so-far-next, tabled-none, tabled-all, steps-below, inverses-below, step-right, images-all, steps-all, inverses-all}
+use Rattle.poly.specs.Novel.{step, step-sym}
+use Rattle.space.specs.Setting.{noTables}
+use Rattle.space.proofs.Progress.{SoFar, so-far-start, so-far-next, tabled-none, tabled-all, steps-below, inverses-below, step-right}
 use Rattle.space.proofs.tabulate.Statement.{statement}
 use Rattle.space.proofs.tabulate.Tie as tie
 

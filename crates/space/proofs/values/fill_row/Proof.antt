@@ -1,10 +1,9 @@
 -- `space::values::fill_row` meets its contract. The loop's invariant: y is W_j(x), and the images of number below j are written. Assumes nothing.
-use mathlib.Core.Path.{_≡_, refl, sym, ap, ap₂, _∙_, subst}
+use mathlib.Core.Path.{_≡_, sym, ap, _∙_, subst}
 use mathlib.Core.List.{List}
-use Prim.Native.Nat.{ℕ, _-_, _*_, _+_, _≤_, _<_, _^_}
+use Prim.Native.Nat.{ℕ, _-_, _*_, _≤_, _<_, _^_}
 use native.Mathlib.Omega.{arith}
-use lib.ListN.{length, getD}
-use borrow.Author.Needs.{needs}
+use lib.ListN.{getD}
 use Rattle.lists.specs.Filled.{Filled, filled-none, filled-next}
 use Rattle.field.specs.Binary.{_⊕_, degree, product}
 use Rattle.field.specs.Xor.{xor-below}

@@ -1,5 +1,5 @@
 -- `space::values::value` meets its contract. The loop's invariant: y is W_i(x). Assumes nothing.
-use mathlib.Core.Path.{_≡_, sym, ap, _∙_, subst}
+use mathlib.Core.Path.{_≡_, sym, ap, _∙_}
 use Prim.Native.Nat.{ℕ, _-_, _≤_, _<_, _^_}
 use native.Mathlib.Omega.{arith}
 use Rattle.field.specs.Binary.{_⊕_, degree}
