@@ -6,8 +6,7 @@ use Prim.Native.Nat.{ℕ, _*_, _-_, _^_, _≤_}
 use native.Mathlib.Omega.{arith}
 use lib.ListN.{length}
 use Rattle.lists.specs.All.{All, Below, below-stable}
-use Rattle.lists.specs.Answers.{Checks, Passes, answers-one, answers-after, passes-each}
-use Rattle.lists.specs.Calls.{RefusedWith}
+use Rattle.lists.specs.Answers.{Checks, Passes, not-refused, answers-after, passes-each}
 use Rattle.lists.specs.Tables.{length-tab, All-tab}
 use Rattle.field.specs.Binary.{degree}
 use Rattle.field.specs.Laws.{IsField}
@@ -22,10 +21,6 @@ use Rattle.codec.specs.declared.Outcome.the-variants.{Done, Refused}
 use Rattle.codec.specs.Calls.{lengthChecks, symbolChecks, wordChecks, encodeChecks, decodeChecks, Encoded, Decoded}
 use Rattle.codec.specs.Checks.{earlyChecks, early-numbered}
 use Rattle.codec.specs.Lengths.{lengths-right, lengths-passed}
-
--- no call that passes its checks is refused
-never-refused : {cs : Checks} {n : ℕ} {old new scratch left : List ℕ} → Passes cs → RefusedWith cs n old new scratch left → ⊥
-never-refused {cs} p r = let z = answers-one cs (r .refuses .1) p in omega (arith, r .refuses .0)
 
 module _ (m : ℕ) (bs : List ℕ) where
   -- what passes checks 1 to 7
@@ -91,7 +86,7 @@ module _ (m : ℕ) (bs : List ℕ) where
 
       by : (r : Outcome) → Decoded m bs w′ c c′ t t′ r → (r ≡ Done) × (c′ ≡ p)
       by Done d = (refl, decode-unique (sound-field S) (length bs) bs (S .basis) c′ p (d .right .count) lp (d .right .elements) sp (sym (d .right .word-is) ∙ e .right))
-      by (Refused n) d = absurd (never-refused fine d)
+      by (Refused n) d = absurd (not-refused (decodeChecks m bs w′ (length c) (length t)) fine (d .refuses))
 
   -- what is encoded from decoded coefficients, by a call with enough room, is the word
   pub encode-decoded : (w c c′ s s′ v v′ t t′ : List ℕ) (r : Outcome) → Decoded m bs w c c′ s s′ Done
@@ -109,4 +104,4 @@ module _ (m : ℕ) (bs : List ℕ) where
 
       by : (r : Outcome) → Encoded m bs c′ v v′ t t′ r → (r ≡ Done) × (v′ ≡ w)
       by Done e = (refl, e .right ∙ sym (d .right .word-is))
-      by (Refused n) e = absurd (never-refused fine e)
+      by (Refused n) e = absurd (not-refused (encodeChecks m bs c′ (length v) (length t)) fine (e .refuses))

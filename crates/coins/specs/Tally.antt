@@ -7,7 +7,7 @@ use native.Mathlib.Numerals.{add-one}
 use native.Mathlib.Omega.{arith}
 use lib.Pow.{pow-pos}
 use Rattle.lists.specs.All.{Below}
-use Rattle.lists.specs.Answers.{Passes, answers-one}
+use Rattle.lists.specs.Answers.{Passes, answers-one, not-refused}
 use Rattle.field.specs.Binary.{degree}
 use Rattle.field.specs.Symbols.{symbols}
 use Rattle.proximity.specs.Dim.{dim, R}
@@ -51,13 +51,10 @@ module _ (m k : ℕ) (b w π : List ℕ) (coin : ℕ) (hw : Below (2 ^ degree m)
   judged (Refused n) (l, a) = omega (arith, answers-one (readChecks (symbols m) k w π coin) in-range a)
 
 module _ (f : List ℕ) (p : Passes (fileChecks f)) (coin : ℕ) (h : coin < 2 ^ R (dimIn f)) where
-  not-refused : (n : ℕ) → AnsweredFile f coin (Refused n) → ⊥
-  not-refused n (l, a) = omega (arith, answers-one (coinChecks f coin) (coin-passes f coin p h) a)
-
   next : (v : Verdict) → AnsweredFile f coin v → (c : ℕ) → Counted (Rejects f) coin c → Counted (Rejects f) (suc coin) (c + rejectsIn v)
   next (Accept n) (q, e, a) c t = subst (Counted (Rejects f) (suc coin)) {x = c} {y = c + 0} (omega arith) (inr ((λ (m, (s, g, b)). b a), t))
   next (Reject n) a c t = inl (c, (n, a), omega arith, t)
-  next (Refused n) a c t = absurd (not-refused n a)
+  next (Refused n) a c t = absurd (not-refused (coinChecks f coin) (coin-passes f coin p h) a)
 
   -- one more coin
   pub count-verdict : (v : Verdict) → AnsweredFile f coin v → (c : ℕ) → Counted (Rejects f) coin c → Counted (Rejects f) (coin + 1) (c + rejectsIn v)
@@ -66,7 +63,7 @@ module _ (f : List ℕ) (p : Passes (fileChecks f)) (coin : ℕ) (h : coin < 2 ^
   reads-verdict : (v : Verdict) → AnsweredFile f coin v → readsIn v ≡ readsOf (dimIn f) coin
   reads-verdict (Accept n) (q, e, a) = e
   reads-verdict (Reject n) (q, e, a) = e
-  reads-verdict (Refused n) a = absurd (not-refused n a)
+  reads-verdict (Refused n) a = absurd (not-refused (coinChecks f coin) (coin-passes f coin p h) a)
 
   pub most-verdict : (v : Verdict) → AnsweredFile f coin v → max (mostOf coin (readsOf (dimIn f))) (readsIn v) ≡ mostOf (coin + 1) (readsOf (dimIn f))
   most-verdict v a = ap (max (mostOf coin (readsOf (dimIn f)))) (reads-verdict v a) ∙ ap (λ (m : ℕ). mostOf m (readsOf (dimIn f))) (sym (add-one coin))

@@ -5,7 +5,7 @@ use Prim.Native.Nat.{ℕ, _≤_}
 use native.Mathlib.Omega.{arith}
 use lib.ListN.{length, take, drop}
 use lib.Seq.{take-at}
-use Rattle.lists.specs.Answers.{Checks, Passes, answers-one}
+use Rattle.lists.specs.Answers.{Checks, Passes, answers-one, not-refused}
 use Rattle.space.specs.Sound.{Sound}
 use Rattle.stored.specs.File.{fileOf, fileEnd, modulusIn, basisIn}
 use Rattle.stored.specs.Passed.{length-basis}
@@ -14,7 +14,7 @@ use Rattle.stored.specs.Whole.{Delivery, Gives}
 use Rattle.stored.specs.Written.{length-file, file-accepted, file-gives}
 use Rattle.prover.specs.Calls.{ProofOf}
 use Rattle.prover.specs.Determined.{one-proof}
-use Rattle.delivery.specs.Steps.{not-refused, delivery}
+use Rattle.delivery.specs.Steps.{delivery}
 use Rattle.delivery.specs.Table.{wordFrom, tableChecks, Told}
 use Rattle.delivery.specs.TableLaws.{table-passed}
 use Rattle.delivery.specs.declared.Made.{Made}

@@ -3,10 +3,9 @@ use mathlib.Core.Path.{_≡_, refl, ap, _∙_}
 use mathlib.Core.Logic.{_⊎_, inl, inr}
 use mathlib.Core.List.{List, _++_}
 use Prim.Native.Nat.{ℕ, _-_, _*_, _^_, _≤_}
-use native.Mathlib.Omega.{arith}
 use lib.ListN.{length}
 use Rattle.lists.specs.All.{All}
-use Rattle.lists.specs.Answers.{Checks, Passes, Refuses, answers-one, answers-after}
+use Rattle.lists.specs.Answers.{Passes, not-refused, answers-after}
 use Rattle.lists.specs.Tables.{length-tab}
 use Rattle.field.specs.Laws.{IsField}
 use Rattle.field.specs.Symbols.{symbols}
@@ -30,10 +29,6 @@ use Rattle.stored.specs.Whole.{Delivery}
 use Rattle.stored.specs.Writer.{writerChecks, Wrote}
 use Rattle.stored.specs.WriterLaws.{range-answer}
 use Rattle.delivery.specs.Parts.{Coefficients}
-
--- no call that passes its checks is refused
-pub not-refused : {n : ℕ} (cs : Checks) → Passes cs → Refuses cs n → ⊥
-not-refused cs p (l, a) = let z = answers-one cs a p in omega arith
 
 module _ (m : ℕ) (bs : List ℕ) (s : Sound m bs) where
   abbrev k : ℕ

@@ -29,6 +29,10 @@ answers-one ((n, P) ∷ cs) (inl a) (inr b) = absurd (b .0 (a .0))
 answers-one ((n, P) ∷ cs) (inr a) (inl b) = absurd (a .0 (b .0))
 answers-one ((n, P) ∷ cs) (inr a) (inr b) = answers-one cs (a .1) (b .1)
 
+-- no call that passes its checks is refused
+pub not-refused : {n : ℕ} (cs : Checks) → Passes cs → Refuses cs n → ⊥
+not-refused cs p (l, a) = let z = answers-one cs a p in omega arith
+
 -- ---- two tables, one after the other
 
 -- no number of the table is 0, which means that no check refuses

@@ -10,7 +10,7 @@ use Rattle.lists.specs.All.{Below, below-stable}
 use Rattle.lists.specs.Answers.{Passes, Numbered, answers-after, passes-each}
 use Rattle.field.specs.Binary.{degree}
 use Rattle.field.specs.Calls.{modulus-numbered}
-use Rattle.field.specs.Checks.{modulusChecks, GoodModulus, modulus-passed, good-passes}
+use Rattle.field.specs.Checks.{modulusChecks, GoodModulus, modulus-passed, good-passes, not-less}
 use Rattle.field.specs.Laws.{IsField}
 use Rattle.field.specs.Symbols.{symbols, symbols-field}
 use Rattle.poly.specs.Codeword.{Basis}
@@ -50,10 +50,7 @@ bounded m bs p = go (passes-each (modulusChecks m) (basisChecks m bs) (modulus-n
     go (q, inl a) = absurd (omega arith)
     go (q, inr (a, inl b)) = absurd (omega arith)
     go (q, inr (a, inr b)) =
-        record { modulus = modulus-passed m q; low = at-least (λ h. a (inl h)); high = at-least (λ h. a (inr h)); elements = below-stable (2 ^ degree m) bs (b .0) }
-      where
-        at-least : {x y : ℕ} → (x < y → ⊥) → y ≤ x
-        at-least {x} {y} f = omega (arith, f)
+        record { modulus = modulus-passed m q; low = not-less (λ h. a (inl h)); high = not-less (λ h. a (inr h)); elements = below-stable (2 ^ degree m) bs (b .0) }
 
 module _ (m : ℕ) (bs : List ℕ) where
   independent-stable : ((Independent (symbols m) bs → ⊥) → ⊥) → Independent (symbols m) bs

@@ -3,11 +3,12 @@ use mathlib.Core.Path.{_≡_, refl}
 use mathlib.Core.Logic.{_⊎_, inl, inr}
 use mathlib.Core.List.{List}
 use Prim.Native.Nat.{ℕ, _+_, _*_, _^_, _≤_, _<_}
-use native.Mathlib.Decide.{decLe, ℕ-discrete}
+use native.Mathlib.Decide.{decLe}
 use native.Mathlib.Omega.{arith}
 use lib.ListN.{length, getD}
 use Rattle.lists.specs.All.{Below, below-stable}
 use Rattle.lists.specs.Answers.{Answers, Passes, Numbered, answers-after, refused-first, passes-each}
+use Rattle.lists.specs.Decides.{equal-stable}
 use Rattle.lists.specs.Tables.{length-tab}
 use Rattle.field.specs.Calls.{modulus-numbered}
 use Rattle.field.specs.Checks.{modulusChecks, GoodModulus, modulus-passed, good-passes, not-less}
@@ -22,24 +23,13 @@ opens-stable : (f : List ℕ) (p n a b : ℕ) → ((Opens f p n a b → ⊥) →
 opens-stable f p n a b g =
     record {
       present = by-le (decLe (p + n) (length f)) (λ k. g (λ o. k (o .present)));
-      first = by-eq (ℕ-discrete (getD f p 0) a) (λ k. g (λ o. k (o .first)));
-      second = by-eq (ℕ-discrete (getD f (p + 1) 0) b) (λ k. g (λ o. k (o .second)));
+      first = equal-stable (getD f p 0) a (λ k. g (λ o. k (o .first)));
+      second = equal-stable (getD f (p + 1) 0) b (λ k. g (λ o. k (o .second)));
     }
   where
     by-le : {x y : ℕ} → Dec (x ≤ y) → ((x ≤ y → ⊥) → ⊥) → x ≤ y
     by-le (yes h) k = h
     by-le (no h) k = absurd (k h)
-
-    by-eq : {x y : ℕ} → Dec (x ≡ y) → ((x ≡ y → ⊥) → ⊥) → x ≡ y
-    by-eq (yes h) k = h
-    by-eq (no h) k = absurd (k h)
-
-pub eq-stable : (x y : ℕ) → ((x ≡ y → ⊥) → ⊥) → x ≡ y
-eq-stable x y k = by (ℕ-discrete x y)
-  where
-    by : Dec (x ≡ y) → x ≡ y
-    by (yes h) = h
-    by (no h) = absurd (k h)
 
 -- ---- the setting record
 
@@ -132,7 +122,7 @@ module _ (f : List ℕ) (p a b n l : ℕ) where
   record-passed (inr (o, inr (e, inl x))) = absurd (omega arith)
   record-passed (inr (o, inr (e, inr (t, inl x)))) = absurd (omega arith)
   record-passed (inr (o, inr (e, inr (t, inr (s, z))))) =
-      record { opened = opens-stable f p 6 a b o; count = eq-stable (fourAt f (p + 2)) n e; present = not-less t; symbols = below-stable (2 ^ l) (numbersAt f (p + 6) n) s }
+      record { opened = opens-stable f p 6 a b o; count = equal-stable (fourAt f (p + 2)) n e; present = not-less t; symbols = below-stable (2 ^ l) (numbersAt f (p + 6) n) s }
 
   pub record-passes : Held f p a b n l → Passes (recordChecks f p a b n l)
   record-passes h = inr ((λ g. g (h .opened)), inr ((λ g. g (h .count)), inr ((λ t. omega (arith, h .present)), inr ((λ g. g (h .symbols)), refl))))

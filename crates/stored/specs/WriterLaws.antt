@@ -7,12 +7,12 @@ use native.Mathlib.Omega.{arith}
 use lib.ListN.{length}
 use Rattle.lists.specs.All.{below-stable}
 use Rattle.lists.specs.Answers.{Checks, Answers, Passes, Numbered, answers-after, refused-first, passes-each, numbered-append}
+use Rattle.lists.specs.Decides.{equal-stable}
 use Rattle.field.specs.Binary.{degree}
 use Rattle.space.specs.Setting.{settingChecks}
 use Rattle.space.specs.Sound.{sound, setting-numbered}
 use Rattle.proximity.specs.Dim.{S}
 use Rattle.stored.specs.File.{fileOf, fileEnd}
-use Rattle.stored.specs.Passed.{eq-stable}
 use Rattle.stored.specs.Reader.{fileChecks}
 use Rattle.stored.specs.Whole.{Delivery, Gives}
 use Rattle.stored.specs.Writer.{lengthChecks, rangeChecks, writerChecks}
@@ -55,12 +55,12 @@ module _ (m : ℕ) (bs w π : List ℕ) (out : ℕ) where
       go (a, inr (b, z)) (inr (r, y)) = (
         record {
           setting = sound m bs a;
-          word = eq-stable (length w) (2 ^ length bs) (λ n. b (inl n));
-          proof = eq-stable (length π) (S (length bs)) (λ n. b (inr (inl n)));
+          word = equal-stable (length w) (2 ^ length bs) (λ n. b (inl n));
+          proof = equal-stable (length π) (S (length bs)) (λ n. b (inr (inl n)));
           word-symbols = below-stable (2 ^ degree m) w (λ n. r (λ t. n (t .0)));
           proof-symbols = below-stable (2 ^ degree m) π (λ n. r (λ t. n (t .1)));
         },
-        eq-stable out (fileEnd (length bs)) (λ n. b (inr (inr n))),
+        equal-stable out (fileEnd (length bs)) (λ n. b (inr (inr n))),
       )
 
   -- reading what was written gives it back

@@ -2,10 +2,9 @@
 use mathlib.Core.Path.{_≡_, sym, ap, _∙_, transport}
 use mathlib.Core.List.{List, [], _∷_, _++_}
 use Prim.Native.Nat.{ℕ, _^_}
-use native.Mathlib.Omega.{arith}
 use lib.ListN.{length}
 use Rattle.lists.specs.All.{All}
-use Rattle.lists.specs.Answers.{Checks, Passes, Refuses, answers-one}
+use Rattle.lists.specs.Answers.{Checks, Passes, Refuses, answers-one, not-refused}
 use Rattle.field.specs.Laws.{Ops}
 use Rattle.field.specs.Symbols.{symbols}
 use Rattle.space.specs.Setting.{settingChecks}
@@ -18,19 +17,16 @@ use Rattle.verifier.specs.declared.Verdict.the-variants.{Accept, Reject, Refuse
 
 -- by any table of checks
 module _ (cs : Checks) (K : Ops) (k : ℕ) (bs w π : List ℕ) (coin : ℕ) where
-  refused-not-passed : (n : ℕ) → Passes cs → Refuses cs n → ⊥
-  refused-not-passed n p (l, a) = let e : 0 ≡ n = answers-one cs p a in omega arith
-
   -- one answer
   pub answered-one : (u v : Verdict) → Answered cs K k bs w π coin u → Answered cs K k bs w π coin v → u ≡ v
   answered-one (Accept a) (Accept b) (p, e, s) (q, f, t) = ap Accept (e ∙ sym f)
   answered-one (Accept a) (Reject b) (p, e, s) (q, f, t) = absurd (t s)
-  answered-one (Accept a) (Refused b) (p, e, s) r = absurd (refused-not-passed b p r)
+  answered-one (Accept a) (Refused b) (p, e, s) r = absurd (not-refused cs p r)
   answered-one (Reject a) (Accept b) (p, e, s) (q, f, t) = absurd (s t)
   answered-one (Reject a) (Reject b) (p, e, s) (q, f, t) = ap Reject (e ∙ sym f)
-  answered-one (Reject a) (Refused b) (p, e, s) r = absurd (refused-not-passed b p r)
-  answered-one (Refused a) (Accept b) r (q, f, t) = absurd (refused-not-passed a q r)
-  answered-one (Refused a) (Reject b) r (q, f, t) = absurd (refused-not-passed a q r)
+  answered-one (Reject a) (Refused b) (p, e, s) r = absurd (not-refused cs p r)
+  answered-one (Refused a) (Accept b) r (q, f, t) = absurd (not-refused cs q r)
+  answered-one (Refused a) (Reject b) r (q, f, t) = absurd (not-refused cs q r)
   answered-one (Refused a) (Refused b) (l, r) (k, s) = ap Refused (answers-one cs r s)
 
 -- two deliveries of one length, alike at the coin's positions

@@ -4,7 +4,7 @@ use mathlib.Core.List.{List}
 use Prim.Native.Nat.{ℕ, _<_}
 use native.Mathlib.Decide.{decLt}
 use native.Mathlib.Omega.{arith}
-use Rattle.lists.specs.Answers.{Checks, Passes, Refuses, answers-one}
+use Rattle.lists.specs.Answers.{Checks, Passes, answers-one, not-refused}
 use Rattle.lists.specs.Calls.{RefusedWith}
 use Rattle.codec.specs.Calls.{Told}
 use Rattle.codec.specs.declared.Outcome.{Outcome}
@@ -17,9 +17,6 @@ pub record SameEnd (u v : Outcome) (new new′ left left′ : List ℕ) : Type 0
   pub scratch : left ≡ left′
 
 module _ (cs : Checks) (Right : List ℕ → Type 0) (one : Passes cs → (a b : List ℕ) → Right a → Right b → a ≡ b) (old scratch : List ℕ) where
-  not-both : (n : ℕ) → Passes cs → Refuses cs n → ⊥
-  not-both n p (l, a) = let e : 0 ≡ n = answers-one cs p a in omega arith
-
   same-scratch : (n : ℕ) (new new′ left left′ : List ℕ) → RefusedWith cs n old new scratch left → RefusedWith cs n old new′ scratch left′ → left ≡ left′
   same-scratch n new new′ left left′ r s = by (decLt 7 n)
     where
@@ -30,8 +27,8 @@ module _ (cs : Checks) (Right : List ℕ → Type 0) (one : Passes cs → (a b :
   pub told-end : (u v : Outcome) (new new′ left left′ : List ℕ) → Told cs Right old new scratch left u → Told cs Right old new′ scratch left′ v → SameEnd u v new new′ left left′
   told-end Done Done new new′ left left′ a b =
       record { answer = refl; output = one (a .passes) new new′ (a .right) (b .right); scratch = a .cleared ∙ sym (b .cleared) }
-  told-end Done (Refused n) new new′ left left′ a r = absurd (not-both n (a .passes) (r .refuses))
-  told-end (Refused n) Done new new′ left left′ r b = absurd (not-both n (b .passes) (r .refuses))
+  told-end Done (Refused n) new new′ left left′ a r = absurd (not-refused cs (a .passes) (r .refuses))
+  told-end (Refused n) Done new new′ left left′ r b = absurd (not-refused cs (b .passes) (r .refuses))
   told-end (Refused n) (Refused m) new new′ left left′ r s = by (answers-one cs (r .refuses .1) (s .refuses .1))
     where
       by : n ≡ m → SameEnd (Refused n) (Refused m) new new′ left left′

@@ -1,10 +1,11 @@
 -- `verifier::delivery_refusal` meets its contract. Assumes nothing.
 use mathlib.Core.Path.{_≡_, refl, sym, _∙_, subst}
 use mathlib.Core.Logic.{_⊎_, inl, inr}
-use Prim.Native.Nat.{ℕ, _*_, _/_, _%_, _^_, _≤_, _<_}
+use Prim.Native.Nat.{ℕ, _*_, _/_, _%_, _^_, _≤_}
 use native.Mathlib.Nat.{div-eq-of-lt, le-div-iff-mul-le}
 use native.Mathlib.Omega.{arith}
 use lib.Pow.{pow-pos}
+use Rattle.field.specs.Checks.{not-less}
 use Rattle.proximity.specs.Dim.{S, R}
 use Rattle.proximity.specs.LineLaws.{R-small}
 use Rattle.verifier.proofs.Laws.{one-shifted}
@@ -24,11 +25,8 @@ module _ (k word proof coin : ℕ) (few : k ≤ 12) where
   right-lengths e f (inl g) = g (e ∙ one-shifted k (omega arith))
   right-lengths e f (inr g) = g f
 
-  at-least : (n : ℕ) → (coin < 2 ^ n → ⊥) → 2 ^ n ≤ coin
-  at-least n g = omega (arith, g)
-
   high : (n : ℕ) → n ≡ R k → (coin / 2 ^ n ≡ 0 → ⊥) → 2 ^ R k ≤ coin
-  high n e f = subst (λ (r : ℕ). 2 ^ r ≤ coin) e (at-least n (λ l. f (div-eq-of-lt l)))
+  high n e f = subst (λ (r : ℕ). 2 ^ r ≤ coin) e (not-less (λ l. f (div-eq-of-lt l)))
 
   low : (n : ℕ) → n ≡ R k → coin / 2 ^ n ≡ 0 → 2 ^ R k ≤ coin → ⊥
   low n e z h =
