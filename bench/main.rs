@@ -121,29 +121,49 @@ fn dimension(f: &plain::Field, basis: &[u16]) -> [Row; 4] {
     [encode, decode, prove, row(with_checks - checks, fast, Some(slow))]
 }
 
-/// A stored file: all coins at k = 8, and the host kit's call at k = 12.
+/// The word and the proof of a stored file, decoded, and the verdict for one coin.
+fn plain_file(f: &plain::Field, basis: &[u16], bytes: &[u8], coin: u64) -> bool {
+    let symbols = |from: usize, n: usize| -> Vec<u16> { bytes[from..from + 2 * n].chunks(2).map(|c| c[0] as u16 | (c[1] as u16) << 8).collect() };
+    let (k, at) = (basis.len(), 13 + 2 * basis.len());
+    let (word, proof) = (symbols(at, 1 << k), symbols(at + 6 + (2 << k), model::proof_length(k)));
+    plain::check(f, &plain::Space::new(f, basis), &word, &proof, coin)
+}
+
+/// The stored file of a polynomial.
+fn stored_file(f: &plain::Field, basis: &[u16]) -> Vec<u8> {
+    let (k, space) = (basis.len(), plain::Space::new(f, basis));
+    let p: Vec<u16> = (0..1u32 << (k - 3)).map(|i| (i * 25717 + 11) as u16).collect();
+    let w = plain::encode(f, &space, &p);
+    let mut pi = vec![0u16; model::proof_length(k)];
+    plain::prove(f, &space, &w, &mut pi);
+    file::bytes_of(MODULUS, basis, &w, &pi)
+}
+
+/// All coins of a stored file at k = 8, and the host kit's call at k = 12.
 fn stored(f: &plain::Field, basis: &[u16]) {
-    for k in [8, 12] {
-        let b = &basis[..k];
-        let space = plain::Space::new(f, b);
-        let p: Vec<u16> = (0..1u32 << (k - 3)).map(|i| (i * 25717 + 11) as u16).collect();
-        let w = plain::encode(f, &space, &p);
-        let mut pi = vec![0u16; model::proof_length(k)];
-        plain::prove(f, &space, &w, &mut pi);
-        let bytes = file::bytes_of(MODULUS, b, &w, &pi);
-        if k == 8 {
-            assert_eq!((1..6).map(|i| calls::total(&bytes, i)).collect::<Vec<_>>(), [8, 2048, 0, 64, 0]);
-            let [proved, fast] = times([
-                &mut |_| assert_eq!(calls::total(&bytes, 3), 0),
-                &mut |_| assert!((0..2048).all(|c| plain::check(f, &space, &w, &pi, c))),
-            ]);
-            println!("\nall 2048 coins of a stored file at k = 8: proved {:.3} ms, log tables {:.3} ms", proved / 1e6, fast / 1e6);
-        } else {
-            let mut reads = 0;
-            let call = time(|i| assert_eq!(calls::check_file(&bytes, coin_at(k, i), &mut reads), 0));
-            println!("host kit's call on a stored file at k = 12, {} bytes: {:.3} ms", bytes.len(), call / 1e6);
-        }
-    }
+    let bytes = stored_file(f, &basis[..8]);
+    let held = file::read(&bytes).ok().expect("the file is accepted");
+    let space = plain::Space::new(f, &basis[..8]);
+    assert_eq!((1..6).map(|i| calls::total(&bytes, i)).collect::<Vec<_>>(), [8, 2048, 0, 64, 0]);
+    let [proved, fast] = times([
+        &mut |_| assert_eq!(calls::total(&bytes, 3), 0),
+        &mut |_| assert!((0..2048).all(|c| plain::check(f, &space, &held.word, &held.proof, c))),
+    ]);
+    let slow = time(|_| assert_eq!(file::count(&bytes), Ok([8, 2048, 0, 64, 0])));
+    println!("\nall 2048 coins of a stored file at k = 8: proved {:.3} ms, log tables {:.3} ms, model {:.1} ms", proved / 1e6, fast / 1e6, slow / 1e6);
+
+    let bytes = stored_file(f, basis);
+    let mut reads = 0;
+    let [proved, fast] = times([
+        &mut |i| assert_eq!(calls::check_file(&bytes, coin_at(12, i), &mut reads), 0),
+        &mut |i| assert!(plain_file(f, basis, &bytes, coin_at(12, i))),
+    ]);
+    let slow = time(|i| {
+        let x = file::read(&bytes).ok().expect("the file is accepted");
+        assert!(model::check(x.modulus, &x.basis, &x.word, &x.proof, coin_at(12, i)) <= 64);
+    });
+    println!("one coin from C on a stored file of {} bytes, k = 12, with the whole file checked: proved {:.3} ms;", bytes.len(), proved / 1e6);
+    println!("  decoded and not checked, log tables {:.3} ms; model {:.1} ms", fast / 1e6, slow / 1e6);
 }
 
 fn main() {
