@@ -47,7 +47,7 @@ fn refused(number: u8) -> Reading
 // Reads three records from the front of the bytes; others may follow.
 //
 // Ruled out: a count that is compared before the mark, since a record with neither gets 11; an end
-// that is the end of the bytes, since it is where the proof's symbols end.
+// before the proof's symbols, since it is where they end.
 pub fn read_prefix(file: &[u8]) -> Reading
     ensures { λ r. ⌜ Told (prefixChecks (now (file .entry))) (now (file .entry)) r ⌝ }
 {
