@@ -33,7 +33,7 @@ pub fn bytes_of(m: u32, basis: &[u16], word: &[u16], proof: &[u16]) -> Vec<u8> {
 }
 
 /// The bytes of a setting and coefficients: what the writer's program takes.
-pub fn table_of(m: u32, basis: &[u16], p: &[u16]) -> Vec<u8> {
+pub fn message_of(m: u32, basis: &[u16], p: &[u16]) -> Vec<u8> {
     [setting_record(m, basis), record([0x43, 0x4f], p)].concat()
 }
 
@@ -98,7 +98,7 @@ pub fn file_length(k: usize) -> usize {
 }
 
 /// Setting and coefficients, or the number of the first check that refuses: 6 after 5 where the file would exceed 40000 bytes or the room.
-pub fn read_table(bytes: &[u8], room: usize) -> Result<(u32, Vec<u16>, Vec<u16>), u32> {
+pub fn read_message(bytes: &[u8], room: usize) -> Result<(u32, Vec<u16>, Vec<u16>), u32> {
     let mut rest = bytes;
     let (m, basis) = read_setting(&mut rest)?;
     let k = basis.len();

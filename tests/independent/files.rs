@@ -1,4 +1,4 @@
-//! Stored files: the proved reader, writer, checker, counter and table program beside the independent model.
+//! Stored files: the proved reader, writer, checker, counter and message program beside the independent model.
 use crate::{basis, damage, file, model, modulus, Draw, Tally};
 
 extern "C" {
@@ -9,7 +9,7 @@ extern "C" {
     fn proximity_word_byte(file: *const u8, n: usize, at: u64) -> u32;
     fn proximity_proof_byte(file: *const u8, n: usize, at: u64) -> u32;
     fn proximity_total(file: *const u8, n: usize, which: u32) -> u64;
-    fn proximity_make(table: *const u8, n: usize, out: *mut u8, o: usize) -> u32;
+    fn proximity_make(message: *const u8, n: usize, out: *mut u8, o: usize) -> u32;
 }
 
 /// A good setting of dimension k, and the coefficients, the word and the proof of a polynomial.
@@ -195,7 +195,7 @@ fn counts(t: &mut Tally) {
 }
 
 /// From coefficients in bytes to a stored file, in enough room and in too little; the output is compared whole.
-fn tables(t: &mut Tally) {
+fn messages(t: &mut Tally) {
     let mut d = Draw(0x5be0cd19137e2179);
     let (mut wrong, mut numbers) = (0, [0u64; 13]);
     for round in 0..800u64 {
@@ -208,7 +208,7 @@ fn tables(t: &mut Tally) {
             4 => x.p.push(1),
             _ => {}
         }
-        let mut f = file::table_of(x.m, &x.b, &x.p);
+        let mut f = file::message_of(x.m, &x.b, &x.p);
         match round % 12 {
             5 => spoil(&mut d, &mut f, k),
             6 => f.truncate(d.below(f.len() as u64) as usize),
@@ -220,7 +220,7 @@ fn tables(t: &mut Tally) {
         let old: Vec<u8> = (0..room).map(|i| (i * 7) as u8).collect();
         let mut out = old.clone();
         let got = unsafe { proximity_make(f.as_ptr(), f.len(), out.as_mut_ptr(), out.len()) };
-        let (right, whole) = match file::read_table(&f, room) {
+        let (right, whole) = match file::read_message(&f, room) {
             Err(n) => (65536 + n, old),
             Ok((m, b, p)) => {
                 let made = file::bytes_of(m, &b, &model::word_of(m, &b, &p), &model::proof_of(m, &b, &p));
@@ -228,7 +228,7 @@ fn tables(t: &mut Tally) {
             }
         };
         wrong += u64::from(got != right || out != whole);
-        numbers[file::read_table(&f, room).err().unwrap_or(0) as usize] += 1;
+        numbers[file::read_message(&f, room).err().unwrap_or(0) as usize] += 1;
     }
     println!("made or refused, by number: {numbers:?}");
     t.group("files from coefficients", wrong, 800);
@@ -258,6 +258,6 @@ pub fn all(t: &mut Tally) {
     parts(t);
     written(t);
     counts(t);
-    tables(t);
+    messages(t);
     samples(t);
 }

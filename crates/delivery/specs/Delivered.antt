@@ -15,27 +15,27 @@ use Rattle.stored.specs.Written.{length-file, file-accepted, file-gives}
 use Rattle.prover.specs.Calls.{ProofOf}
 use Rattle.prover.specs.Determined.{one-proof}
 use Rattle.delivery.specs.Steps.{delivery}
-use Rattle.delivery.specs.Table.{wordFrom, tableChecks, Told}
-use Rattle.delivery.specs.TableLaws.{table-passed}
+use Rattle.delivery.specs.Message.{wordFrom, messageChecks, Told}
+use Rattle.delivery.specs.MessageLaws.{message-passed}
 use Rattle.delivery.specs.declared.Made.{Made}
 use Rattle.delivery.specs.declared.Made.the-variants.{Written, Refused}
 
 module _ (t old : List ℕ) where
   abbrev checks : Checks
-  checks = tableChecks t (length old)
+  checks = messageChecks t (length old)
 
-  table-sound : Passes checks → Sound (modulusIn t) (basisIn t)
-  table-sound p = table-passed t (length old) p .0 .setting .sound
+  message-sound : Passes checks → Sound (modulusIn t) (basisIn t)
+  message-sound p = message-passed t (length old) p .0 .setting .sound
 
   -- the bytes written fit
   pub written-fits : (new : List ℕ) (n : ℕ) → Told t old new (Written n) → n ≤ length old
-  written-fits new n (p, e, f) = omega (arith, table-passed t (length old) p .1)
+  written-fits new n (p, e, f) = omega (arith, message-passed t (length old) p .1)
 
   -- two answers to one call are the same, and leave the same output
   pub one-delivery : (new new′ : List ℕ) (r r′ : Made) → Told t old new r → Told t old new′ r′ → (r ≡ r′) × (new ≡ new′)
   one-delivery new new′ (Written n) (Written n′) (p, e, (π, P, f)) (p′, e′, (ρ, R, f′)) =
       let same : n ≡ n′ = e ∙ sym e′ in
-      let one : π ≡ ρ = one-proof (table-sound p) (wordFrom t) π ρ P R in
+      let one : π ≡ ρ = one-proof (message-sound p) (wordFrom t) π ρ P R in
       (ap Written same, f ∙ ap₂ (λ (proof : List ℕ) (j : ℕ). fileOf (modulusIn t) (basisIn t) (wordFrom t) proof ++ drop j old) one same ∙ sym f′)
   one-delivery new new′ (Written n) (Refused n′) (p, e, f) (q, b) = absurd (not-refused checks p q)
   one-delivery new new′ (Refused n) (Written n′) (q, b) (p, e, f) = absurd (not-refused checks p q)
@@ -52,7 +52,7 @@ module _ (t old : List ℕ) where
   )
     where
       d : Delivery (modulusIn t) (basisIn t) (wordFrom t) π
-      d = delivery (modulusIn t) (basisIn t) (table-sound p) (wordFrom t) π P
+      d = delivery (modulusIn t) (basisIn t) (message-sound p) (wordFrom t) π P
 
       front : take n new ≡ fileOf (modulusIn t) (basisIn t) (wordFrom t) π
       front =

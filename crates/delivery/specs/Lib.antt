@@ -1,6 +1,6 @@
--- A delivery: from the coefficients of a table to a stored file.
-pub mod Table
+-- A delivery: from the coefficients of a message to a stored file.
+pub mod Message
 pub mod Parts
-pub mod TableLaws
+pub mod MessageLaws
 pub mod Steps
 pub mod Delivered

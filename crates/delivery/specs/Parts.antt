@@ -1,4 +1,4 @@
--- What holds past the checks of a table, and what is then written. Definitions only.
+-- What holds past the checks of a message, and what is then written. Definitions only.
 use mathlib.Core.Path.{_≡_}
 use mathlib.Core.List.{List}
 use Prim.Native.Nat.{ℕ, _-_, _^_, _≤_}
@@ -11,7 +11,7 @@ use Rattle.space.specs.Sound.{Sound}
 use Rattle.stored.specs.File.{fileOf, modulusIn, dimIn, basisIn}
 use Rattle.stored.specs.Passed.{Head, Held}
 use Rattle.prover.specs.Calls.{ProofOf}
-use Rattle.delivery.specs.Table.{coefficientRecordAt}
+use Rattle.delivery.specs.Message.{coefficientRecordAt}
 
 -- a sound setting whose stored file has at most 40000 bytes
 pub record Small (m : ℕ) (bs : List ℕ) : Type 0 where
@@ -23,7 +23,7 @@ pub record Coefficients (m : ℕ) (bs xs : List ℕ) : Type 0 where
   pub count : length xs ≡ 2 ^ (length bs - 3)
   pub symbols : Below (2 ^ degree m) xs
 
--- both records of the table
+-- both records of the message
 pub record Passed (t : List ℕ) : Type 0 where
   pub head : Head t
   pub setting : Small (modulusIn t) (basisIn t)

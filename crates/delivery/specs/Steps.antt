@@ -1,4 +1,4 @@
--- Past the checks of a table no call on the way is refused: encoder, prover and writer do what they say. Assumes nothing.
+-- Past the checks of a message no call on the way is refused: encoder, prover and writer do what they say. Assumes nothing.
 use mathlib.Core.Path.{_≡_, refl, ap, _∙_}
 use mathlib.Core.Logic.{_⊎_, inl, inr}
 use mathlib.Core.List.{List, _++_}

@@ -1,4 +1,4 @@
-// The checks of a table file, front to back.
+// The checks of a message file, front to back.
 use field::Field;
 use novel::convert::power;
 use proximity::tables;
@@ -11,7 +11,7 @@ ghost use Rattle.field.specs.Binary.{degree};
 ghost use Rattle.field.specs.Products.{Sized};
 ghost use Rattle.space.specs.Setting.{maxDim};
 ghost use Rattle.stored.specs.File.{fileEnd};
-ghost use Rattle.delivery.specs.Table.{coefficientRecordAt, roomChecks, coefficientChecks, tableChecks};
+ghost use Rattle.delivery.specs.Message.{coefficientRecordAt, roomChecks, coefficientChecks, messageChecks};
 
 // How many bytes a stored file of dimension k has.
 pub fn file_end(k: usize) -> usize
@@ -38,27 +38,27 @@ fn room_refusal(k: usize, room: usize) -> u8
 }
 
 // The checks of the coefficient record, then 12 where bytes follow it.
-fn coefficient_refusal(f: Field, table: &[u8], k: usize) -> u8
-    requires { ⌜ Sized f × (3 ≤ k) × (k ≤ maxDim) × (coefficientRecordAt k ≤ length (now table)) ⌝ }
-    ensures { λ r. ⌜ Answers (coefficientChecks (now (table .entry)) k (degree (f .modulus))) r ⌝ }
+fn coefficient_refusal(f: Field, message: &[u8], k: usize) -> u8
+    requires { ⌜ Sized f × (3 ≤ k) × (k ≤ maxDim) × (coefficientRecordAt k ≤ length (now message)) ⌝ }
+    ensures { λ r. ⌜ Answers (coefficientChecks (now (message .entry)) k (degree (f .modulus))) r ⌝ }
 {
     let n = power(k - 3);
     let at = 7 + 2 * k;
-    let early = records::record_refusal(f, table, at, 0x43, 0x4F, n);
+    let early = records::record_refusal(f, message, at, 0x43, 0x4F, n);
     if early != 0 {
         return early;
     }
-    if at + 6 + 2 * n < table.len() {
+    if at + 6 + 2 * n < message.len() {
         return 12;
     }
     0
 }
 
-// The number of the first check that refuses the table, with room bytes for the stored file.
-pub fn refusal(table: &[u8], room: usize) -> u8
-    ensures { λ r. ⌜ Answers (tableChecks (now (table .entry)) room) r ⌝ }
+// The number of the first check that refuses the message, with room bytes for the stored file.
+pub fn refusal(message: &[u8], room: usize) -> u8
+    ensures { λ r. ⌜ Answers (messageChecks (now (message .entry)) room) r ⌝ }
 {
-    let c = records::setting_of(table);
+    let c = records::setting_of(message);
     let early = c.refusal;
     let setting = c.setting;
     if early != 0 {
@@ -69,5 +69,5 @@ pub fn refusal(table: &[u8], room: usize) -> u8
     if six != 0 {
         return six;
     }
-    coefficient_refusal(setting.field, table, k)
+    coefficient_refusal(setting.field, message, k)
 }

@@ -1,4 +1,4 @@
-// The word, the proof and the stored file, of a table that passed its checks.
+// The word, the proof and the stored file, of a message that passed its checks.
 use novel::convert::power;
 use proximity::tables;
 use stored::bytes;
@@ -11,7 +11,7 @@ ghost use Rattle.proximity.specs.Dim.{S};
 ghost use Rattle.prover.specs.Calls.{ProofOf};
 ghost use Rattle.stored.specs.Bytes.{numbersAt};
 ghost use Rattle.stored.specs.File.{fileEnd, dimIn, modulusIn, basisIn};
-ghost use Rattle.delivery.specs.Table.{coefficientsIn};
+ghost use Rattle.delivery.specs.Message.{coefficientsIn};
 ghost use Rattle.delivery.specs.Parts.{Small, Coefficients, Passed, StoredFile};
 
 fn no_numbers() -> [u16; 32]
@@ -39,14 +39,14 @@ fn no_scratch() -> [u16; 1024]
 }
 
 // The first count two-byte numbers from index at on.
-fn numbers_at(table: &[u8], at: usize, count: usize) -> [u16; 32]
-    requires { ⌜ (count ≤ 32) × (at + 2 * count ≤ length (now table)) ⌝ }
-    ensures { λ r. ⌜ (length r ≡ 32) × (take count r ≡ numbersAt (now (table .entry)) at count) ⌝ }
+fn numbers_at(message: &[u8], at: usize, count: usize) -> [u16; 32]
+    requires { ⌜ (count ≤ 32) × (at + 2 * count ≤ length (now message)) ⌝ }
+    ensures { λ r. ⌜ (length r ≡ 32) × (take count r ≡ numbersAt (now (message .entry)) at count) ⌝ }
 {
     let mut out = no_numbers();
     let mut i = 0;
     while i < count {
-        out[i] = bytes::two_at(table, at + 2 * i);
+        out[i] = bytes::two_at(message, at + 2 * i);
         i += 1;
     }
     out
@@ -89,14 +89,14 @@ fn write_coefficients(modulus: u32, basis: &[u16], coefficients: &[u16], out: &m
     stored::write(modulus, basis, &word[..n], &proof[..s], out);
 }
 
-// The stored file of a table of dimension k that passed its checks.
-pub fn write_file(table: &[u8], k: usize, out: &mut [u8])
-    requires { ⌜ Passed (now table) × (k ≡ dimIn (now table)) × (length (now out) ≡ fileEnd (dimIn (now table))) ⌝ }
-    ensures { λ _. ⌜ StoredFile (modulusIn (now (table .entry))) (basisIn (now (table .entry))) (coefficientsIn (now (table .entry))) (now (out .exit)) ⌝ }
+// The stored file of a message of dimension k that passed its checks.
+pub fn write_file(message: &[u8], k: usize, out: &mut [u8])
+    requires { ⌜ Passed (now message) × (k ≡ dimIn (now message)) × (length (now out) ≡ fileEnd (dimIn (now message))) ⌝ }
+    ensures { λ _. ⌜ StoredFile (modulusIn (now (message .entry))) (basisIn (now (message .entry))) (coefficientsIn (now (message .entry))) (now (out .exit)) ⌝ }
 {
     let n = power(k - 3);
-    let modulus = bytes::four_at(table, 2);
-    let basis = numbers_at(table, 7, k);
-    let coefficients = numbers_at(table, 13 + 2 * k, n);
+    let modulus = bytes::four_at(message, 2);
+    let basis = numbers_at(message, 7, k);
+    let coefficients = numbers_at(message, 13 + 2 * k, n);
     write_coefficients(modulus, &basis[..k], &coefficients[..n], out);
 }

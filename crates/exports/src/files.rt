@@ -7,7 +7,7 @@ ghost use mathlib.Core.List.{List};
 ghost use Prim.Native.Nat.{ℕ, _*_, _^_};
 ghost use lib.ListN.{getD};
 ghost use Rattle.coins.specs.Totals as totals;
-ghost use Rattle.delivery.specs.Table as making;
+ghost use Rattle.delivery.specs.Message as making;
 ghost use Rattle.proximity.specs.Dim.{S};
 ghost use Rattle.stored.specs.File.{wordAt, proofAt, dimIn};
 ghost use Rattle.stored.specs.Reader.{PartOf};
@@ -46,10 +46,10 @@ pub extern "C" fn proximity_write(
 }
 
 #[no_mangle]
-pub extern "C" fn proximity_make(table: &[u8], out: &mut [u8]) -> u32
-    ensures { λ r. ⌜ ((m : Made) × making.Told (now (table .entry)) (now (out .entry)) (now (out .exit)) m × (r ≡ madeCode m)) ⌝ }
+pub extern "C" fn proximity_make(message: &[u8], out: &mut [u8]) -> u32
+    ensures { λ r. ⌜ ((m : Made) × making.Told (now (message .entry)) (now (out .entry)) (now (out .exit)) m × (r ≡ madeCode m)) ⌝ }
 {
-    made_code(delivery::make(table, out))
+    made_code(delivery::make(message, out))
 }
 
 // A total by its number: the refusal, then the five lines of the counter.

@@ -1,5 +1,5 @@
-// Makes a delivery: reads a table file on standard input and writes its stored file on standard
-// output, or the number that refuses it. No table has 4096 bytes, so an input that goes past the
+// Makes a delivery: reads a message file on standard input and writes its stored file on standard
+// output, or the number that refuses it. No message has 4096 bytes, so an input that goes past the
 // buffer gets the number that all of it would get.
 use delivery::Made;
 use libc::STDIN_FILENO;
@@ -19,9 +19,9 @@ fn refused(number: u8) {
     io::write_all(STDOUT_FILENO, b"\n");
 }
 
-fn deliver(table: &[u8]) {
+fn deliver(message: &[u8]) {
     let mut out = room();
-    match delivery::make(table, &mut out) {
+    match delivery::make(message, &mut out) {
         Made::Written(n) => {
             io::write_all(STDOUT_FILENO, &out[..n]);
         }
@@ -30,7 +30,7 @@ fn deliver(table: &[u8]) {
 }
 
 fn main() {
-    let mut table = io::buffer();
-    let n = io::read_full(STDIN_FILENO, &mut table);
-    deliver(&table[..n]);
+    let mut message = io::buffer();
+    let n = io::read_full(STDIN_FILENO, &mut message);
+    deliver(&message[..n]);
 }

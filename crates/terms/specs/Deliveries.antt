@@ -1,5 +1,5 @@
 -- The printed sentences for a delivery from end to end. `Told t old new r` is the contract of delivery's `make` for its answer r on the
--- table file t, with what the lent output held before (old) and holds after (new).
+-- message file t, with what the lent output held before (old) and holds after (new).
 use mathlib.Core.Path.{_≡_, sym, transport}
 use mathlib.Core.List.{List}
 use Prim.Native.Nat.{ℕ}
@@ -10,7 +10,7 @@ use Rattle.stored.specs.Reader.{fileChecks}
 use Rattle.stored.specs.Whole.{Gives}
 use Rattle.prover.specs.Calls.{ProofOf}
 use Rattle.delivery.specs.Delivered as delivered
-use Rattle.delivery.specs.Table.{wordFrom, Told}
+use Rattle.delivery.specs.Message.{wordFrom, Told}
 use Rattle.delivery.specs.declared.Made.{Made}
 use Rattle.delivery.specs.declared.Made.the-variants.{Written}
 use Rattle.terms.specs.Files.{AcceptedFromC, accepted-exactly-from-c}
@@ -19,7 +19,7 @@ use Rattle.terms.specs.Files.{AcceptedFromC, accepted-exactly-from-c}
 pub one-delivery : (t old new new′ : List ℕ) (r r′ : Made) → Told t old new r → Told t old new′ r′ → (r ≡ r′) × (new ≡ new′)
 one-delivery = delivered.one-delivery
 
--- The bytes written are accepted as a stored file, which gives back the table's setting, the word of its coefficients and the proof of
+-- The bytes written are accepted as a stored file, which gives back the message's setting, the word of its coefficients and the proof of
 -- that word; and the call from C accepts the file at every coin.
 pub record Delivers (t file : List ℕ) : Type 0 where
   pub accepted : Passes (fileChecks file)

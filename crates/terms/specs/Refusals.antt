@@ -6,7 +6,7 @@ use mathlib.Core.List.{List}
 use Prim.Native.Nat.{ℕ, _≤_, _<_}
 use native.Mathlib.Omega.{arith}
 use lib.ListN.{length}
-use Rattle.lists.specs.Answers.{Checks, Answers, Passes, answers-one}
+use Rattle.lists.specs.Answers.{Checks, Answers, Passes, answers-one, not-refused}
 use Rattle.lists.specs.Calls.{zeros, RefusedWith, Within, answer-within}
 use Rattle.verifier.specs.Checker as checker
 use Rattle.verifier.specs.declared.Verdict.the-variants as verdict
@@ -16,10 +16,10 @@ use Rattle.codec.specs.Calls.{encodeChecks, decodeChecks, Encoded, Decoded, Tol
 use Rattle.codec.specs.declared.Outcome.{Outcome}
 use Rattle.codec.specs.declared.Outcome.the-variants.{Done, Refused}
 use Rattle.prover.specs.Calls.{proveChecks, Proven}
-use Rattle.delivery.specs.Table as making
+use Rattle.delivery.specs.Message as making
 use Rattle.delivery.specs.declared.Made.the-variants as made
 
--- A table of checks gives at most one number, and none that it does not list.
+-- The checks of a call give at most one number.
 pub one-number : (cs : Checks) {r s : ℕ} → Answers cs r → Answers cs s → r ≡ s
 one-number = answers-one
 
@@ -38,7 +38,7 @@ module _ (cs : Checks) (old new scratch left : List ℕ) where
 
   done : (Right : List ℕ → Type 0) → Passes cs → (u : Outcome) → Told cs Right old new scratch left u → u ≡ Done
   done Right p Done t = refl
-  done Right p (Refused n) t = let e : 0 ≡ n = answers-one cs p (t .refuses .1) in absurd (omega (arith, t .refuses .0))
+  done Right p (Refused n) t = absurd (not-refused cs p (t .refuses))
 
 module _ (m : ℕ) (bs p old new scratch left : List ℕ) where
   pub refused-encoding : (n : ℕ) → Encoded m bs p old new scratch left (Refused n) → LeftBy n old new scratch left
@@ -72,4 +72,4 @@ refused-writing m bs w π old new n ((l, a), e) = (l, answer-within (writerCheck
 
 -- the maker of deliveries
 pub refused-making : (t old new : List ℕ) (n : ℕ) → making.Told t old new (made.Refused n) → (0 < n) × (n ≤ 12) × (new ≡ old)
-refused-making t old new n ((l, a), e) = (l, answer-within (making.tableChecks t (length old)) (search (arith) depth 40) a, e)
+refused-making t old new n ((l, a), e) = (l, answer-within (making.messageChecks t (length old)) (search (arith) depth 40) a, e)

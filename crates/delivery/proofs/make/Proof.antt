@@ -8,8 +8,8 @@ use lib.Seq.{length-take-le}
 use Rattle.lists.specs.Answers.{Answers, Passes}
 use Rattle.stored.specs.File.{fileOf, fileEnd, modulusIn, dimIn, basisIn}
 use Rattle.delivery.specs.Parts.{Passed}
-use Rattle.delivery.specs.Table.{wordFrom, tableChecks}
-use Rattle.delivery.specs.TableLaws.{table-passed}
+use Rattle.delivery.specs.Message.{wordFrom, messageChecks}
+use Rattle.delivery.specs.MessageLaws.{message-passed}
 use borrow.Author.Needs.{needs}
 use Rattle.delivery.proofs.make.Statement.{statement}
 use Rattle.delivery.proofs.make.Tie as tie
@@ -26,19 +26,19 @@ module _ (c : tie.Else1) where
   start = c .before .before .before .before
 
   abbrev t : List ℕ
-  t = start .args .table .now
+  t = start .args .message .now
 
   abbrev old : List ℕ
   old = start .args .out .now
 
-  passes : Passes (tableChecks t (length old))
-  passes = subst (Answers (tableChecks t (length old))) (c .if1 .left) (c .before .refusal .ensures)
+  passes : Passes (messageChecks t (length old))
+  passes = subst (Answers (messageChecks t (length old))) (c .if1 .left) (c .before .refusal .ensures)
 
   held : Passed t
-  held = table-passed t (length old) passes .0
+  held = message-passed t (length old) passes .0
 
   room : fileEnd (dimIn t) ≤ length old
-  room = table-passed t (length old) passes .1
+  room = message-passed t (length old) passes .1
 
 shared-slice-read-k : tie.Need-shared-slice-read-k
 shared-slice-read-k c = omega (arith, held (c .before) .head .opened .present)

@@ -6,7 +6,7 @@ use native.Mathlib.Omega.{arith}
 use lib.ListN.{length}
 use lib.Seq.{length-take-le}
 use Rattle.delivery.specs.Delivered.{written-fits}
-use Rattle.delivery.specs.Table.{Told}
+use Rattle.delivery.specs.Message.{Told}
 use borrow.Author.Needs.{needs}
 use Rattle.make_delivery.proofs.deliver.Statement.{statement}
 use Rattle.make_delivery.proofs.deliver.Tie as tie
@@ -38,7 +38,7 @@ module _ (c : tie.After-known-told) where
   fits =
       let a = called .before .before in
       let old = a .room .result in
-      let t = a .before .before .args .table .now in
+      let t = a .before .before .args .message .now in
       omega (arith, called .make .kept .1 .0, written-fits t old new n (subst (Told t old new) (c .before .n .given .1) (called .make .ensures)))
 
 array-share-prefix-out : tie.Need-array-share-prefix-out

@@ -7,8 +7,8 @@ use native.Mathlib.Omega.{arith}
 use Rattle.lists.specs.Answers.{Answers, Passes}
 use Rattle.field.specs.Binary.{degree}
 use Rattle.stored.specs.Reader.{recordChecks}
-use Rattle.delivery.specs.Table.{coefficientRecordAt}
-use Rattle.delivery.specs.TableLaws.{record-refused, record-after}
+use Rattle.delivery.specs.Message.{coefficientRecordAt}
+use Rattle.delivery.specs.MessageLaws.{record-refused, record-after}
 use Rattle.delivery.proofs.Laws.{at-most}
 use borrow.Author.Needs.{needs}
 use Rattle.delivery.proofs.checks.coefficient_refusal.Statement.{statement}
@@ -39,7 +39,7 @@ module _ (c : tie.After-record-refusal) where
   start = c .before .before .before
 
   abbrev t : List ℕ
-  t = start .args .table .now
+  t = start .args .message .now
 
   abbrev k : ℕ
   k = start .args .k

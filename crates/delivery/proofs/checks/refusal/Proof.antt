@@ -14,8 +14,8 @@ use Rattle.stored.specs.Accepted.{setting-passed, read-setting}
 use Rattle.stored.specs.File.{modulusIn, dimIn, basisIn}
 use Rattle.stored.specs.Passed.{Head, length-basis}
 use Rattle.stored.specs.Reader.{settingChecks}
-use Rattle.delivery.specs.Table.{roomChecks, coefficientChecks}
-use Rattle.delivery.specs.TableLaws.{setting-refused, room-refused, coefficient-answer}
+use Rattle.delivery.specs.Message.{roomChecks, coefficientChecks}
+use Rattle.delivery.specs.MessageLaws.{setting-refused, room-refused, coefficient-answer}
 use borrow.Author.Needs.{needs}
 use Rattle.delivery.proofs.checks.refusal.Statement.{statement}
 use Rattle.delivery.proofs.checks.refusal.Tie as tie
@@ -32,8 +32,8 @@ returns : tie.Need-returns
 returns c =
     let s = c .before .before in
     let a = s .before .before .args in
-    let r = refused (settingChecks (a .table .now)) (modulusIn (a .table .now)) (basisIn (a .table .now)) (s .setting-of .result) (s .setting-of .ensures) (c .if1 .taken) in
-    setting-refused (a .table .now) (a .room) (s .setting-of .result .refusal) (r .0) (r .1)
+    let r = refused (settingChecks (a .message .now)) (modulusIn (a .message .now)) (basisIn (a .message .now)) (s .setting-of .result) (s .setting-of .ensures) (c .if1 .taken) in
+    setting-refused (a .message .now) (a .room) (s .setting-of .result .refusal) (r .0) (r .1)
 
 -- the setting passed
 module _ (c : tie.Else1) where
@@ -41,7 +41,7 @@ module _ (c : tie.Else1) where
   start = c .before .before .before .before
 
   abbrev t : List ℕ
-  t = start .args .table .now
+  t = start .args .message .now
 
   abbrev found : Setting
   found = c .before .before .setting-of .result .setting

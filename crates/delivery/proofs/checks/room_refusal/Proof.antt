@@ -2,7 +2,7 @@
 use mathlib.Core.Path.{refl}
 use mathlib.Core.Logic.{inl, inr}
 use native.Mathlib.Omega.{arith}
-use Rattle.delivery.specs.TableLaws.{room-right}
+use Rattle.delivery.specs.MessageLaws.{room-right}
 use borrow.Author.Needs.{needs}
 use Rattle.delivery.proofs.checks.room_refusal.Statement.{statement}
 use Rattle.delivery.proofs.checks.room_refusal.Tie as tie

@@ -9,10 +9,10 @@ use Rattle.delivery.proofs.parts.numbers_at.Statement.{statement}
 use Rattle.delivery.proofs.parts.numbers_at.Tie as tie
 
 abbrev Inv-loop : tie.InvT-loop
-Inv-loop table at count out₀ i₀ out i = (i ≤ count) × Filled 0 i (λ (j : ℕ). twoAt table (at + 2 * j)) out₀ out
+Inv-loop message at count out₀ i₀ out i = (i ≤ count) × Filled 0 i (λ (j : ℕ). twoAt message (at + 2 * j)) out₀ out
 
 abbrev μ-loop : tie.MeasureT-loop
-μ-loop table at count out₀ i₀ out i = count - i
+μ-loop message at count out₀ i₀ out i = count - i
 
 no-numbers-requires : tie.Need-no-numbers-requires Inv-loop μ-loop
 no-numbers-requires c κs = search needs
@@ -51,8 +51,8 @@ returns c =
     let count = start .args .count in
     let zeros = h .before .no-numbers .result in
     let last : h .loop .i ≡ count = omega arith in
-    let written : Filled 0 count (λ (j : ℕ). twoAt (start .args .table .now) (start .args .at + 2 * j)) zeros (h .loop .out) =
-    subst (λ (n : ℕ). Filled 0 n (λ (j : ℕ). twoAt (start .args .table .now) (start .args .at + 2 * j)) zeros (h .loop .out)) last (h .loop .inv .1) in
+    let written : Filled 0 count (λ (j : ℕ). twoAt (start .args .message .now) (start .args .at + 2 * j)) zeros (h .loop .out) =
+    subst (λ (n : ℕ). Filled 0 n (λ (j : ℕ). twoAt (start .args .message .now) (start .args .at + 2 * j)) zeros (h .loop .out)) last (h .loop .inv .1) in
     (written .kept ∙ h .before .no-numbers .ensures, filled-take (omega (arith, h .before .no-numbers .ensures)) written)
 
 pub numbers-at-spec : {M : Type 1} → statement M

@@ -9,8 +9,8 @@ use Rattle.stored.specs.Bytes.{numbersAt}
 use Rattle.stored.specs.File.{fileEnd, dimIn, basisIn, modulusIn}
 use Rattle.stored.specs.Passed.{length-basis}
 use Rattle.delivery.specs.Parts.{Small, Coefficients, StoredFile}
-use Rattle.delivery.specs.Table.{coefficientsAt, coefficientsIn}
-use Rattle.delivery.specs.TableLaws.{table-coefficients}
+use Rattle.delivery.specs.Message.{coefficientsAt, coefficientsIn}
+use Rattle.delivery.specs.MessageLaws.{message-coefficients}
 use Rattle.delivery.proofs.Laws.{at-most}
 use borrow.Author.Needs.{needs}
 use Rattle.delivery.proofs.parts.write_file.Statement.{statement}
@@ -40,7 +40,7 @@ module _ (c : tie.After-numbers-at) where
   start = c .before .before .before .before .before
 
   abbrev t : List ℕ
-  t = start .args .table .now
+  t = start .args .message .now
 
   abbrev k : ℕ
   k = start .args .k
@@ -107,7 +107,7 @@ write-coefficients-requires c κs =
     let h = c .before .before .before in
     let s = start (one h) in (
       transport (λ i. Small (sym (modulus h) i) (sym (basis h) i)) (s .pre .0 .setting),
-      transport (λ i. Coefficients (sym (modulus h) i) (sym (basis h) i) (sym (coefficients h) i)) (table-coefficients (t (one h)) (s .pre .0)),
+      transport (λ i. Coefficients (sym (modulus h) i) (sym (basis h) i) (sym (coefficients h) i)) (message-coefficients (t (one h)) (s .pre .0)),
       s .pre .2 ∙ ap fileEnd (sym (length-basis (t (one h))) ∙ ap length (sym (basis h))),
     )
 

@@ -1,4 +1,4 @@
--- What a table that passes its checks holds, and the answers on the way. Assumes nothing.
+-- What a message that passes its checks holds, and the answers on the way. Assumes nothing.
 use mathlib.Core.Path.{refl, ap, _∙_, sym}
 use mathlib.Core.Logic.{_⊎_, inl, inr}
 use mathlib.Core.List.{List, [], _∷_, _++_}
@@ -16,7 +16,7 @@ use Rattle.stored.specs.Passed.{length-basis, record-numbered, record-passed}
 use Rattle.stored.specs.Reader.{settingChecks, recordChecks}
 use Rattle.stored.specs.Short.{short-file}
 use Rattle.delivery.specs.Parts.{Coefficients, Passed}
-use Rattle.delivery.specs.Table.{coefficientRecordAt, coefficientsAt, tableEnd, coefficientsIn, roomChecks, coefficientChecks, tableChecks}
+use Rattle.delivery.specs.Message.{coefficientRecordAt, coefficientsAt, messageEnd, coefficientsIn, roomChecks, coefficientChecks, messageChecks}
 
 -- ---- check 6
 
@@ -42,7 +42,7 @@ module _ (t : List ℕ) (k l : ℕ) where
   held = recordChecks t (coefficientRecordAt k) 67 79 (2 ^ (k - 3)) l
 
   abbrev last : Checks
-  last = (12, tableEnd k < length t) ∷ []
+  last = (12, messageEnd k < length t) ∷ []
 
   pub record-refused : (n : ℕ) → 0 < n → Answers held n → Answers (coefficientChecks t k l) n
   record-refused n h a = refused-first held last n h a
@@ -50,7 +50,7 @@ module _ (t : List ℕ) (k l : ℕ) where
   pub record-after : (n : ℕ) → Passes held → Answers last n → Answers (coefficientChecks t k l) n
   record-after n p a = answers-after held last n (record-numbered t (coefficientRecordAt k) 67 79 (2 ^ (k - 3)) l) p a
 
--- ---- the table
+-- ---- the message
 
 module _ (t : List ℕ) (room : ℕ) where
   abbrev k : ℕ
@@ -62,24 +62,24 @@ module _ (t : List ℕ) (room : ℕ) where
   abbrev rest : Checks
   rest = roomChecks k room ++ coefficientChecks t k l
 
-  pub setting-refused : (n : ℕ) → 0 < n → Answers (settingChecks t) n → Answers (tableChecks t room) n
+  pub setting-refused : (n : ℕ) → 0 < n → Answers (settingChecks t) n → Answers (messageChecks t room) n
   setting-refused n h a = refused-first (settingChecks t) rest n h a
 
-  pub room-refused : (n : ℕ) → Passes (settingChecks t) → 0 < n → Answers (roomChecks k room) n → Answers (tableChecks t room) n
+  pub room-refused : (n : ℕ) → Passes (settingChecks t) → 0 < n → Answers (roomChecks k room) n → Answers (messageChecks t room) n
   room-refused n p h a =
       answers-after (settingChecks t) rest n (setting-numbered t) p (refused-first (roomChecks k room) (coefficientChecks t k l) n h a)
 
-  pub coefficient-answer : (n : ℕ) → Passes (settingChecks t) → Passes (roomChecks k room) → Answers (coefficientChecks t k l) n → Answers (tableChecks t room) n
+  pub coefficient-answer : (n : ℕ) → Passes (settingChecks t) → Passes (roomChecks k room) → Answers (coefficientChecks t k l) n → Answers (messageChecks t room) n
   coefficient-answer n p q a =
       answers-after (settingChecks t) rest n (setting-numbered t) p
       (answers-after (roomChecks k room) (coefficientChecks t k l) n (room-numbered k room) q a)
 
-  pub table-passed : Passes (tableChecks t room) → Passed t × (fileEnd k ≤ room)
-  table-passed p =
+  pub message-passed : Passes (messageChecks t room) → Passed t × (fileEnd k ≤ room)
+  message-passed p =
       let one = passes-each (settingChecks t) rest (setting-numbered t) p in
       let two = passes-each (roomChecks k room) (coefficientChecks t k l) (room-numbered k room) (one .1) in
       let record-checks = recordChecks t (coefficientRecordAt k) 67 79 (2 ^ (k - 3)) l in
-      let three = passes-each record-checks ((12, tableEnd k < length t) ∷ []) (record-numbered t (coefficientRecordAt k) 67 79 (2 ^ (k - 3)) l) (two .1) in
+      let three = passes-each record-checks ((12, messageEnd k < length t) ∷ []) (record-numbered t (coefficientRecordAt k) 67 79 (2 ^ (k - 3)) l) (two .1) in
       let h = setting-passed t (one .0) in
       let r = room-passed k room (two .0) in (
         record {
@@ -90,10 +90,10 @@ module _ (t : List ℕ) (room : ℕ) where
         r .1,
       )
 
--- the coefficients of such a table
-pub table-coefficients : (t : List ℕ) → Passed t → Coefficients (modulusIn t) (basisIn t) (coefficientsIn t)
+-- the coefficients of such a message
+pub message-coefficients : (t : List ℕ) → Passed t → Coefficients (modulusIn t) (basisIn t) (coefficientsIn t)
 unfolding coefficientsIn
-table-coefficients t p =
+message-coefficients t p =
     record {
       count = length-tab (2 ^ (dimIn t - 3)) (λ i. twoAt t (coefficientsAt (dimIn t) + 2 * i)) ∙ ap (λ (k : ℕ). 2 ^ (k - 3)) (sym (length-basis t));
       symbols = p .coefficients .symbols;
