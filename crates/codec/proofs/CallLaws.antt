@@ -23,6 +23,8 @@ use Rattle.codec.specs.Lengths.{lengths-passed}
 use Rattle.codec.specs.Early as early
 use Rattle.codec.specs.Words.{Usable, Lengths, EncodedWith, DecodedWith}
 use Rattle.codec.proofs.WordLaws.{usable}
+use Rattle.space.specs.Sizes.{maxDim}
+use Rattle.codec.specs.Scratch.{scratchFor}
 
 -- an eighth of the word
 pub eighth-is : (k n : ℕ) → 3 ≤ k → n ≡ 2 ^ k → n / 8 ≡ 2 ^ (k - 3)
@@ -38,7 +40,7 @@ module _ (m : ℕ) (bs : List ℕ) (a b s : ℕ) where
     abbrev cs : Checks
     cs = lengthChecks (length bs) a b s
 
-    pub dimensions : c .refusal ≡ 0 → (3 ≤ length bs) × (length bs ≤ 12)
+    pub dimensions : c .refusal ≡ 0 → (3 ≤ length bs) × (length bs ≤ maxDim)
     dimensions e = early.dimensions m bs cs c set e
 
     -- a refusal by checks 1 to 7
@@ -53,8 +55,8 @@ module _ (m : ℕ) (bs : List ℕ) (a b s : ℕ) where
       pub early-ready : Ready m bs (c .setting)
       early-ready = early.early-ready m bs cs c set r e z
 
-      pub early-lengths : (a ≡ 2 ^ (length bs - 3)) × (b ≡ 2 ^ length bs) × (4 * 2 ^ length bs ≤ s)
-      early-lengths = lengths-passed a (2 ^ (length bs - 3)) b (2 ^ length bs) s (4 * 2 ^ length bs) (early.early-rest m bs cs c set r e z)
+      pub early-lengths : (a ≡ 2 ^ (length bs - 3)) × (b ≡ 2 ^ length bs) × (scratchFor (length bs) ≤ s)
+      early-lengths = lengths-passed a (2 ^ (length bs - 3)) b (2 ^ length bs) s (scratchFor (length bs)) (early.early-rest m bs cs c set r e z)
 
 -- the setting by its own modulus
 pub own-ready : {m : ℕ} {bs : List ℕ} {s : Setting} → Ready m bs s → Ready (s .field .modulus) bs s
@@ -64,12 +66,12 @@ pub ready-usable : {m : ℕ} {bs : List ℕ} {s : Setting} → Ready m bs s → 
 ready-usable r = usable (own-ready r)
 
 pub ready-lengths : {m : ℕ} {bs : List ℕ} {s : Setting} (coefficients word scratch : List ℕ) → Ready m bs s
-    → (length coefficients ≡ 2 ^ (length bs - 3)) × (length word ≡ 2 ^ length bs) × (4 * 2 ^ length bs ≤ length scratch) → Lengths s coefficients word scratch
+    → (length coefficients ≡ 2 ^ (length bs - 3)) × (length word ≡ 2 ^ length bs) × (scratchFor (length bs) ≤ length scratch) → Lengths s coefficients word scratch
 ready-lengths {m} {bs} {s} coefficients word scratch r (e, w, l) =
     record {
       eighth = e ∙ ap (λ (i : ℕ). 2 ^ (i - 3)) (sym (r .dimension));
       whole = w ∙ ap (λ (i : ℕ). 2 ^ i) (sym (r .dimension));
-      room = subst (λ (i : ℕ). 4 * 2 ^ i ≤ length scratch) (sym (r .dimension)) l;
+      room = subst (λ (i : ℕ). scratchFor i ≤ length scratch) (sym (r .dimension)) l;
     }
 
 -- ---- past check 7

@@ -14,10 +14,11 @@ use Rattle.space.specs.Setting.{settingChecks}
 use Rattle.codec.specs.Early.{EarlyOf}
 use Rattle.codec.specs.declared.Outcome.{Outcome}
 use Rattle.codec.specs.declared.Outcome.the-variants.{Done, Refused}
+use Rattle.codec.specs.Scratch.{scratchFor}
 
 -- checks 6 and 7 at dimension k, of the lengths of the coefficients, the word and the scratch
 abbrev pub lengthChecks : ℕ → ℕ → ℕ → ℕ → Checks
-lengthChecks k coefficients word scratch = (6, (coefficients ≢ 2 ^ (k - 3)) ⊎ (word ≢ 2 ^ k)) ∷ (7, scratch < 4 * 2 ^ k) ∷ []
+lengthChecks k coefficients word scratch = (6, (coefficients ≢ 2 ^ (k - 3)) ⊎ (word ≢ 2 ^ k)) ∷ (7, scratch < scratchFor k) ∷ []
 
 -- the answer of checks 1 to 7, from that of checks 1 to 5
 abbrev pub Early : ℕ → ℕ → ℕ → ℕ → ℕ → ℕ → Type 0

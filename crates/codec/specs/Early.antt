@@ -11,6 +11,7 @@ use Rattle.space.specs.Ready.{Ready, ready, settled-answer}
 use Rattle.space.specs.Setting.{settingChecks, Settled}
 use Rattle.space.specs.Sound.{setting-numbered}
 use Rattle.space.specs.declared.Checked.{Checked}
+use Rattle.space.specs.Sizes.{maxDim}
 
 -- the answer r, from the number that the checks of the setting give
 abbrev pub EarlyOf : Checks → ℕ → ℕ → Type 0
@@ -21,7 +22,7 @@ module _ (m : ℕ) (bs : List ℕ) (cs : Checks) (c : Checked) (set : Settled m 
   early-answer r (inl (z, p)) = answers-after (settingChecks m bs) cs r (setting-numbered m bs) (subst (Answers (settingChecks m bs)) z (settled-answer m bs c set)) p
   early-answer r (inr (l, e)) = refused-first (settingChecks m bs) cs r (omega arith) (subst (Answers (settingChecks m bs)) (sym e) (settled-answer m bs c set))
 
-  pub dimensions : c .refusal ≡ 0 → (3 ≤ length bs) × (length bs ≤ 12)
+  pub dimensions : c .refusal ≡ 0 → (3 ≤ length bs) × (length bs ≤ maxDim)
   dimensions e = let r = ready m bs c set e in (r .sound .low, r .sound .high)
 
   -- a refusal by these checks

@@ -1,4 +1,5 @@
 -- Encoder and decoder: words from coefficients and back, and the two calls.
+pub mod Scratch
 pub mod Early
 pub mod Calls
 pub mod Lengths

@@ -21,24 +21,25 @@ use Rattle.codec.specs.declared.Outcome.the-variants.{Done, Refused}
 use Rattle.codec.specs.Calls.{lengthChecks, symbolChecks, wordChecks, encodeChecks, decodeChecks, Encoded, Decoded}
 use Rattle.codec.specs.Checks.{earlyChecks, early-numbered}
 use Rattle.codec.specs.Lengths.{lengths-right, lengths-passed}
+use Rattle.codec.specs.Scratch.{scratchFor}
 
 module _ (m : ℕ) (bs : List ℕ) where
   -- what passes checks 1 to 7
   record Past (a b s : ℕ) : Type 0 where
     setting : Passes (settingChecks m bs)
-    lengths : (a ≡ 2 ^ (length bs - 3)) × (b ≡ 2 ^ length bs) × (4 * 2 ^ length bs ≤ s)
+    lengths : (a ≡ 2 ^ (length bs - 3)) × (b ≡ 2 ^ length bs) × (scratchFor (length bs) ≤ s)
 
   past : (a b s : ℕ) (ds : Checks) → Passes (earlyChecks m bs a b s ++ ds) → Past a b s × Passes ds
   past a b s ds p =
       let both = passes-each (earlyChecks m bs a b s) ds (early-numbered m bs a b s) p in
       let first = passes-each (settingChecks m bs) (lengthChecks (length bs) a b s) (setting-numbered m bs) (both .0) in
-      (record { setting = first .0; lengths = lengths-passed a (2 ^ (length bs - 3)) b (2 ^ length bs) s (4 * 2 ^ length bs) (first .1) }, both .1)
+      (record { setting = first .0; lengths = lengths-passed a (2 ^ (length bs - 3)) b (2 ^ length bs) s (scratchFor (length bs)) (first .1) }, both .1)
 
   passing : (a b s : ℕ) (ds : Checks) → Past a b s → Passes ds → Passes (earlyChecks m bs a b s ++ ds)
   passing a b s ds t p =
       answers-after (earlyChecks m bs a b s) ds 0 (early-numbered m bs a b s)
       (answers-after (settingChecks m bs) (lengthChecks (length bs) a b s) 0 (setting-numbered m bs) (t .setting)
-      (lengths-right a (2 ^ (length bs - 3)) b (2 ^ length bs) s (4 * 2 ^ length bs) (t .lengths .0) (t .lengths .1) (t .lengths .2)))
+      (lengths-right a (2 ^ (length bs - 3)) b (2 ^ length bs) s (scratchFor (length bs)) (t .lengths .0) (t .lengths .1) (t .lengths .2)))
       p
 
   symbols-passed : (xs : List ℕ) → Passes (symbolChecks m xs) → Below (2 ^ degree m) xs
@@ -63,7 +64,7 @@ module _ (m : ℕ) (bs : List ℕ) where
 
   -- what is decoded from an encoded word, by a call with enough room, is the coefficients
   pub decode-encoded : (p w w′ s s′ c c′ t t′ : List ℕ) (r : Outcome) → Encoded m bs p w w′ s s′ Done
-      → length c ≡ 2 ^ (length bs - 3) → 4 * 2 ^ length bs ≤ length t → Decoded m bs w′ c c′ t t′ r → (r ≡ Done) × (c′ ≡ p)
+      → length c ≡ 2 ^ (length bs - 3) → scratchFor (length bs) ≤ length t → Decoded m bs w′ c c′ t t′ r → (r ≡ Done) × (c′ ≡ p)
   decode-encoded p w w′ s s′ c c′ t t′ r e lc lt = by r
     where
       before : Past (length p) (length w) (length s) × Passes (symbolChecks m p)
@@ -90,7 +91,7 @@ module _ (m : ℕ) (bs : List ℕ) where
 
   -- what is encoded from decoded coefficients, by a call with enough room, is the word
   pub encode-decoded : (w c c′ s s′ v v′ t t′ : List ℕ) (r : Outcome) → Decoded m bs w c c′ s s′ Done
-      → length v ≡ 2 ^ length bs → 4 * 2 ^ length bs ≤ length t → Encoded m bs c′ v v′ t t′ r → (r ≡ Done) × (v′ ≡ w)
+      → length v ≡ 2 ^ length bs → scratchFor (length bs) ≤ length t → Encoded m bs c′ v v′ t t′ r → (r ≡ Done) × (v′ ≡ w)
   encode-decoded w c c′ s s′ v v′ t t′ r d lv lt = by r
     where
       before : Past (length c) (length w) (length s) × Passes (wordChecks m bs w)

@@ -18,6 +18,8 @@ use Rattle.space.specs.Ready.{Ready}
 use Rattle.space.specs.declared.Setting.{Setting}
 use Rattle.codec.specs.Calls.{CoefficientsOf}
 use Rattle.transform.specs.Blocks.{block}
+use Rattle.space.specs.Sizes.{maxDim}
+use Rattle.codec.specs.Scratch.{scratchFor}
 
 -- each number 8 times
 unfoldable pub spreadOf : ℕ → List ℕ → List ℕ
@@ -28,7 +30,7 @@ pub record Usable (s : Setting) : Type 0 where
   pub sized : Sized (s .field)
   pub irreducible : Irreducible (s .field .modulus)
   pub low : 3 ≤ s .space .k
-  pub high : s .space .k ≤ 12
+  pub high : s .space .k ≤ maxDim
   pub images : Below (2 ^ degree (s .field .modulus)) (s .space .images)
   pub steps : Below (2 ^ degree (s .field .modulus)) (s .steps)
   pub inverses : Below (2 ^ degree (s .field .modulus)) (s .inverses)
@@ -37,14 +39,14 @@ pub record Usable (s : Setting) : Type 0 where
 pub record Lengths (s : Setting) (coefficients word scratch : List ℕ) : Type 0 where
   pub eighth : length coefficients ≡ 2 ^ (s .space .k - 3)
   pub whole : length word ≡ 2 ^ s .space .k
-  pub room : 4 * 2 ^ s .space .k ≤ length scratch
+  pub room : scratchFor (s .space .k) ≤ length scratch
 
 -- coefficients over the novel basis, for the eight blocks of a word of 2^k symbols
 pub record Filling (f : Field) (images : List ℕ) (k : ℕ) (d : List ℕ) : Type 0 where
   pub sized : Sized f
   pub irreducible : Irreducible (f .modulus)
   pub low : 3 ≤ k
-  pub high : k ≤ 12
+  pub high : k ≤ maxDim
   pub image-symbols : Below (2 ^ degree (f .modulus)) images
   pub symbols : Below (2 ^ degree (f .modulus)) d
   pub count : length d ≡ 2 ^ (k - 3)

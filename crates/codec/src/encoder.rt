@@ -2,6 +2,7 @@
 use field::Field;
 use field::modulus::all_symbols;
 use novel::novel_of;
+use space::CELLS;
 use space::Setting;
 use transform::blocks::evaluate_blocks;
 use transform::slices::transpose;
@@ -29,7 +30,7 @@ fn spread(from: &[u16], to: &mut [u16])
 }
 
 // The eight blocks, as lanes, of the polynomial with the coefficients d over the novel basis.
-fn fill_lanes(f: Field, images: &[u16; 192], k: usize, d: &[u16], lanes: &mut [u16])
+fn fill_lanes(f: Field, images: &[u16; CELLS], k: usize, d: &[u16], lanes: &mut [u16])
     requires { ⌜ Filling f (now images) k (now d) × (length (now lanes) ≡ 2 ^ k) ⌝ }
     ensures { λ _. ⌜ LanesOf (f .modulus) (now (images .entry)) k (now (d .entry)) (now (lanes .exit)) ⌝ }
 {

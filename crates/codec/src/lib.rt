@@ -1,7 +1,7 @@
 // Encoder and decoder. A call makes its checks in order; a refusal leaves its output as it came, and
 // past check 7 the scratch is zero.
-pub mod decoder;
-pub mod encoder;
+mod decoder;
+mod encoder;
 
 use decoder::decode_with;
 use encoder::encode_with;
@@ -13,6 +13,10 @@ ghost use lib.ListN.{length};
 ghost use Rattle.lists.specs.Answers.{Answers};
 ghost use Rattle.lists.specs.Calls.{zeros};
 ghost use Rattle.codec.specs.Calls.{lengthChecks, Early, outcomeOf, Encoded, Decoded};
+ghost use Rattle.space.specs.Sizes.{maxDim};
+
+// How many words of scratch encoder, decoder and prover take.
+pub const SCRATCH: usize = 4;
 
 // A call is done, or refused with a number.
 pub enum Outcome {
@@ -22,7 +26,7 @@ pub enum Outcome {
 
 // Checks 6 and 7 of lengths, at dimension k.
 fn length_refusal(k: usize, coefficients: usize, word: usize, scratch: usize) -> u8
-    requires { ⌜ (3 ≤ k) × (k ≤ 12) ⌝ }
+    requires { ⌜ (3 ≤ k) × (k ≤ maxDim) ⌝ }
     ensures { λ r. ⌜ Answers (lengthChecks k coefficients word scratch) r ⌝ }
 {
     let n = power(k);
@@ -32,7 +36,7 @@ fn length_refusal(k: usize, coefficients: usize, word: usize, scratch: usize) ->
     if word != n {
         return 6;
     }
-    if scratch < 4 * n {
+    if scratch < SCRATCH * n {
         return 7;
     }
     0
@@ -40,7 +44,7 @@ fn length_refusal(k: usize, coefficients: usize, word: usize, scratch: usize) ->
 
 // Checks 1 to 7, from the number that checks 1 to 5 give.
 fn early_refusal(refusal: u8, k: usize, coefficients: usize, word: usize, scratch: usize) -> u8
-    requires { ⌜ (refusal ≡ 0 → (3 ≤ k) × (k ≤ 12)) ⌝ }
+    requires { ⌜ (refusal ≡ 0 → (3 ≤ k) × (k ≤ maxDim)) ⌝ }
     ensures { λ r. ⌜ Early refusal k coefficients word scratch r ⌝ }
 {
     if refusal == 0 {

@@ -2,6 +2,7 @@
 // eighth.
 use super::symbols::no_word;
 use field::Field;
+use space::CELLS;
 use space::Setting;
 use transform::blocks::evaluate_blocks;
 use transform::blocks::is_codeword;
@@ -44,7 +45,7 @@ fn differing(word: &[u16], size: usize, lanes: &[u16]) -> usize
 }
 
 // The same with the polynomial through the first eighth; lanes is room for its word.
-fn off_first(f: Field, images: &[u16; 192], k: usize, word: &[u16], lanes: &mut [u16]) -> usize
+fn off_first(f: Field, images: &[u16; CELLS], k: usize, word: &[u16], lanes: &mut [u16]) -> usize
     requires { ⌜ InBlocks f (now images) k (now word) × (length (now lanes) ≡ length (now word)) ⌝ }
     ensures { λ r. ⌜ ((b : List ℕ) → Basis (symbols (f .modulus)) k b → Images (symbols (f .modulus)) b (now (images .entry)) → Off (symbols (f .modulus)) k b (now (word .entry)) r) ⌝ }
 {

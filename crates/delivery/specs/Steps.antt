@@ -29,6 +29,7 @@ use Rattle.stored.specs.Whole.{Delivery}
 use Rattle.stored.specs.Writer.{writerChecks, Wrote}
 use Rattle.stored.specs.WriterLaws.{range-answer}
 use Rattle.delivery.specs.Parts.{Coefficients}
+use Rattle.codec.specs.Scratch.{scratchFor}
 
 module _ (m : ℕ) (bs : List ℕ) (s : Sound m bs) where
   abbrev k : ℕ
@@ -39,7 +40,7 @@ module _ (m : ℕ) (bs : List ℕ) (s : Sound m bs) where
 
   -- ---- the encoder
 
-  pub encoded : (xs old new scratch left : List ℕ) (r : Outcome) → Coefficients m bs xs → length old ≡ 2 ^ k → 4 * 2 ^ k ≤ length scratch
+  pub encoded : (xs old new scratch left : List ℕ) (r : Outcome) → Coefficients m bs xs → length old ≡ 2 ^ k → scratchFor k ≤ length scratch
       → Encoded m bs xs old new scratch left r → new ≡ wordOf (symbols m) k bs xs
   encoded xs old new scratch left r c lo ls = by r
     where
@@ -47,7 +48,7 @@ module _ (m : ℕ) (bs : List ℕ) (s : Sound m bs) where
       fine =
           answers-after (earlyChecks m bs (length xs) (length old) (length scratch)) (symbolChecks m xs) 0 (early-numbered m bs (length xs) (length old) (length scratch))
           (answers-after (settingChecks m bs) (Rattle.codec.specs.Calls.lengthChecks k (length xs) (length old) (length scratch)) 0 (setting-numbered m bs) (sound-passes m bs s)
-          (lengths-right (length xs) (2 ^ (k - 3)) (length old) (2 ^ k) (length scratch) (4 * 2 ^ k) (c .count) lo ls))
+          (lengths-right (length xs) (2 ^ (k - 3)) (length old) (2 ^ k) (length scratch) (scratchFor k) (c .count) lo ls))
           (inr ((λ f. f (c .symbols)), refl))
 
       by : (r : Outcome) → Encoded m bs xs old new scratch left r → new ≡ wordOf (symbols m) k bs xs
@@ -56,7 +57,7 @@ module _ (m : ℕ) (bs : List ℕ) (s : Sound m bs) where
 
   -- ---- the prover
 
-  pub proven : (w old new scratch left : List ℕ) (r : Outcome) → Codeword (symbols m) k bs w → length old ≡ S k → 4 * 2 ^ k ≤ length scratch
+  pub proven : (w old new scratch left : List ℕ) (r : Outcome) → Codeword (symbols m) k bs w → length old ≡ S k → scratchFor k ≤ length scratch
       → Proven m bs w old new scratch left r → ProofOf m bs w new
   proven w old new scratch left r (P, lp, sp, e) lo ls = by r
     where
@@ -65,7 +66,7 @@ module _ (m : ℕ) (bs : List ℕ) (s : Sound m bs) where
           answers-after (settingChecks m bs ++ Rattle.prover.specs.Calls.lengthChecks k (length w) (length old) (length scratch)) (wordChecks m bs w) 0
           (Rattle.prover.proofs.CallLaws.early-numbered m bs (length w) (length old) (length scratch))
           (answers-after (settingChecks m bs) (Rattle.prover.specs.Calls.lengthChecks k (length w) (length old) (length scratch)) 0 (setting-numbered m bs) (sound-passes m bs s)
-          (lengths-right (length w) (2 ^ k) (length old) (S k) (length scratch) (4 * 2 ^ k) (length-word P w e) lo ls))
+          (lengths-right (length w) (2 ^ k) (length old) (S k) (length scratch) (scratchFor k) (length-word P w e) lo ls))
           (word-passes m bs s P w lp sp e)
 
       by : (r : Outcome) → Proven m bs w old new scratch left r → ProofOf m bs w new

@@ -9,7 +9,7 @@ ghost use lib.ListN.{length};
 ghost use Rattle.lists.specs.Answers.{Answers};
 ghost use Rattle.field.specs.Binary.{degree};
 ghost use Rattle.field.specs.Products.{Sized};
-ghost use Rattle.space.specs.Setting.{maxDim};
+ghost use Rattle.space.specs.Sizes.{maxDim};
 ghost use Rattle.stored.specs.File.{fileEnd};
 ghost use Rattle.delivery.specs.Message.{coefficientRecordAt, roomChecks, coefficientChecks, messageChecks};
 

@@ -25,6 +25,7 @@ use Rattle.codec.proofs.CallLaws.{own-ready}
 use Rattle.codec.proofs.WordLaws.{ready-basis}
 use Rattle.prover.specs.Prover.{Proving, Proved}
 use Rattle.prover.specs.Calls.{lengthChecks, ProofOf, InSetting, ProvenWith}
+use Rattle.codec.specs.Scratch.{scratchFor}
 
 module _ (m : ℕ) (bs : List ℕ) (a b s : ℕ) where
   pub early-within : Within 7 (settingChecks m bs ++ lengthChecks (length bs) a b s)
@@ -36,14 +37,14 @@ module _ (m : ℕ) (bs : List ℕ) (a b s : ℕ) where
 -- ---- checks 9 and 10, and the proof
 
 pub in-setting : {m : ℕ} {bs : List ℕ} {s : Setting} (word proof scratch : List ℕ) → Ready m bs s
-    → (length word ≡ 2 ^ length bs) × (length proof ≡ S (length bs)) × (4 * 2 ^ length bs ≤ length scratch) → InSetting s word proof scratch
+    → (length word ≡ 2 ^ length bs) × (length proof ≡ S (length bs)) × (scratchFor (length bs) ≤ length scratch) → InSetting s word proof scratch
 in-setting {m} {bs} {s} word proof scratch r (w, p, l) =
     record {
       basis = bs;
       ready = own-ready r;
       whole = w ∙ ap (λ (i : ℕ). 2 ^ i) (sym (r .dimension));
       size = p ∙ ap S (sym (r .dimension));
-      room = subst (λ (i : ℕ). 4 * 2 ^ i ≤ length scratch) (sym (r .dimension)) l;
+      room = subst (λ (i : ℕ). scratchFor i ≤ length scratch) (sym (r .dimension)) l;
     }
 
 module _ {s : Setting} {bs : List ℕ} (r : Ready (s .field .modulus) bs s) (word : List ℕ) where

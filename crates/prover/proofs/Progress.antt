@@ -19,7 +19,7 @@ use Rattle.poly.specs.Poly.{eval, eval-sym}
 use Rattle.poly.specs.Span.{elem, elem-sym}
 use Rattle.poly.specs.Codeword.{Basis, Codeword}
 use Rattle.space.specs.Images.{Images}
-use Rattle.space.specs.Setting.{maxDim}
+use Rattle.space.specs.Sizes.{maxDim}
 use Rattle.proximity.specs.Dim.{half, rowDim, colDim, dim, S}
 use Rattle.proximity.specs.Tree.{S-leaf, S-node}
 use Rattle.proximity.specs.Spaces.{rowBasis}

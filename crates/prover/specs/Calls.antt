@@ -16,10 +16,11 @@ use Rattle.proximity.specs.Dim.{dim, S}
 use Rattle.proximity.specs.Proof.{Honest}
 use Rattle.codec.specs.Calls.{wordChecks, Told}
 use Rattle.codec.specs.declared.Outcome.{Outcome}
+use Rattle.codec.specs.Scratch.{scratchFor}
 
 -- checks 6 and 7 at dimension k, of the lengths of the word, the proof and the scratch
 abbrev pub lengthChecks : ℕ → ℕ → ℕ → ℕ → Checks
-lengthChecks k word proof scratch = (6, (word ≢ 2 ^ k) ⊎ (proof ≢ S k)) ∷ (7, scratch < 4 * 2 ^ k) ∷ []
+lengthChecks k word proof scratch = (6, (word ≢ 2 ^ k) ⊎ (proof ≢ S k)) ∷ (7, scratch < scratchFor k) ∷ []
 
 -- the checks of the prover: 1 to 7, 9 and 10
 abbrev pub proveChecks : ℕ → List ℕ → List ℕ → ℕ → ℕ → Checks
@@ -41,7 +42,7 @@ pub record InSetting (s : Setting) (word proof scratch : List ℕ) : Type 0 wher
   pub ready : Ready (s .field .modulus) basis s
   pub whole : length word ≡ 2 ^ s .space .k
   pub size : length proof ≡ S (s .space .k)
-  pub room : 4 * 2 ^ s .space .k ≤ length scratch
+  pub room : scratchFor (s .space .k) ≤ length scratch
 
 -- the proof of the word; or 9 or 10, and the proof as it came
 abbrev pub ProvenWith : Setting → List ℕ → List ℕ → List ℕ → ℕ → Type 0

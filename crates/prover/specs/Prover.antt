@@ -9,7 +9,7 @@ use Rattle.field.specs.Symbols.{symbols}
 use Rattle.field.specs.declared.Field.{Field}
 use Rattle.poly.specs.Codeword.{Basis, Codeword}
 use Rattle.space.specs.Images.{Images}
-use Rattle.space.specs.Setting.{maxDim}
+use Rattle.space.specs.Sizes.{maxDim}
 use Rattle.proximity.specs.Dim.{colDim, dim}
 use Rattle.proximity.specs.declared.Line.{Line}
 use Rattle.proximity.specs.declared.Line.the-variants.{Row, Column}

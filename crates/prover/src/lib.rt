@@ -1,6 +1,6 @@
 // The prover: the proof of a codeword. A call makes its checks in order; a refusal leaves the proof
 // as it came, and past check 7 the scratch is zero.
-pub mod write;
+mod write;
 
 use codec::Outcome;
 use codec::finish;
@@ -13,10 +13,11 @@ ghost use Prim.Native.Nat.{_≤_};
 ghost use Rattle.lists.specs.Answers.{Answers};
 ghost use Rattle.codec.specs.Early.{EarlyOf};
 ghost use Rattle.prover.specs.Calls.{lengthChecks, Proven, InSetting, ProvenWith};
+ghost use Rattle.space.specs.Sizes.{maxDim};
 
 // Checks 6 and 7 of lengths, at dimension k.
 fn length_refusal(k: usize, word: usize, proof: usize, scratch: usize) -> u8
-    requires { ⌜ (3 ≤ k) × (k ≤ 12) ⌝ }
+    requires { ⌜ (3 ≤ k) × (k ≤ maxDim) ⌝ }
     ensures { λ r. ⌜ Answers (lengthChecks k word proof scratch) r ⌝ }
 {
     let n = 1usize << k;
@@ -26,7 +27,7 @@ fn length_refusal(k: usize, word: usize, proof: usize, scratch: usize) -> u8
     if proof != tables::proof_length(k) {
         return 6;
     }
-    if scratch < 4 * n {
+    if scratch < codec::SCRATCH * n {
         return 7;
     }
     0
@@ -34,7 +35,7 @@ fn length_refusal(k: usize, word: usize, proof: usize, scratch: usize) -> u8
 
 // Checks 1 to 7, from the number that checks 1 to 5 give.
 fn early_refusal(refusal: u8, k: usize, word: usize, proof: usize, scratch: usize) -> u8
-    requires { ⌜ (refusal ≡ 0 → (3 ≤ k) × (k ≤ 12)) ⌝ }
+    requires { ⌜ (refusal ≡ 0 → (3 ≤ k) × (k ≤ maxDim)) ⌝ }
     ensures { λ r. ⌜ EarlyOf (lengthChecks k word proof scratch) refusal r ⌝ }
 {
     if refusal == 0 {

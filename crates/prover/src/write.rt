@@ -5,10 +5,11 @@ use proximity::Line;
 use proximity::lines;
 use proximity::spaces;
 use rows::words;
+use space::CELLS;
 ghost use mathlib.Core.Path.{_≡_};
 ghost use Prim.Native.Nat.{_*_, _^_, _≤_};
 ghost use lib.ListN.{length};
-ghost use Rattle.space.specs.Setting.{maxDim};
+ghost use Rattle.space.specs.Sizes.{maxDim};
 ghost use Rattle.proximity.specs.Dim.{S};
 ghost use Rattle.prover.specs.Prover.{Proving, Proved, lineAt, Deep};
 
@@ -43,7 +44,7 @@ fn deep_lines(k: usize) -> usize
 pub fn prove_in(
     f: Field,
     k: usize,
-    images: &[u16; 192],
+    images: &[u16; CELLS],
     word: &[u16],
     proof: &mut [u16],
     work: &mut [u16],

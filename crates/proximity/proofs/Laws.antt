@@ -4,7 +4,7 @@ use Prim.Native.Nat.{ℕ, _+_, _*_, _^_, _%_, _≤_, _<_}
 use native.Mathlib.Omega.{arith}
 use lib.Pow.{pow-mono}
 use Rattle.lists.specs.Tables.{part-fits}
-use Rattle.space.specs.Setting.{maxDim}
+use Rattle.space.specs.Sizes.{maxDim}
 use Rattle.proximity.specs.Dim.{half, rowDim, colDim, S}
 use Rattle.proximity.specs.Tree.{S-node}
 use Rattle.proximity.specs.LineLaws.{S-small}

@@ -19,7 +19,7 @@ use Rattle.field.specs.Binary.{_⊕_}
 use Rattle.field.specs.Symbols.{symbols}
 use Rattle.field.specs.Xor.{xor-assoc, xor-comm, xor-zero-left}
 use Rattle.poly.specs.Span.{bitOf, elem}
-use Rattle.space.specs.Setting.{maxDim}
+use Rattle.space.specs.Sizes.{maxDim, cells}
 use Rattle.proximity.specs.Dim.{half, colDim}
 use Rattle.proximity.specs.LineImages.{addedRow, imageColumn, elementImages, rowImages, columnImages}
 
@@ -83,7 +83,7 @@ module _ (t : List ℕ) where
         ∙ ap (λ (d : List ℕ). getD x j 0 ⊕ sumOf d rest) (sym (drop-of-length-le (imageColumn h c t j) past))
         ∙ s .sums j g ∙ sym (getD-tab 16 (λ j. sumOf (imageColumn h c t j) r) j 0 g))
 
-  module _ (k : ℕ) (s : 7 ≤ k) (top : k ≤ maxDim) (lt : length t ≡ 192) where
+  module _ (k : ℕ) (s : 7 ≤ k) (top : k ≤ maxDim) (lt : length t ≡ cells) where
     -- a row below 4 has the table of the space
     pub row-low : (r : ℕ) → r < 4 → t ≡ rowImages k t r
     unfolding rowImages
@@ -93,9 +93,9 @@ module _ (t : List ℕ) where
     pub row-filled : (r : ℕ) (x new : List ℕ) → 4 ≤ r → x ≡ elementImages (half k) (colDim k) t r → Filled (16 * (half k + 2)) 16 (λ j. getD x j 0) t new → new ≡ rowImages k t r
     unfolding rowImages
     row-filled r x new l e f =
-        ext-getD 0 new (tab 192 entry) (f .kept ∙ lt ∙ sym (length-tab 192 entry))
-        (λ p g. let n : p < 192 = omega (arith, f .kept) in at p (ℕ-discrete (p / 16) (half k + 2)) ∙ sym (getD-tab 192 entry p 0 n))
-        ∙ sym (pick-false t (tab 192 entry) (le-ltb r 4 l))
+        ext-getD 0 new (tab cells entry) (f .kept ∙ lt ∙ sym (length-tab cells entry))
+        (λ p g. let n : p < cells = omega (arith, f .kept) in at p (ℕ-discrete (p / 16) (half k + 2)) ∙ sym (getD-tab cells entry p 0 n))
+        ∙ sym (pick-false t (tab cells entry) (le-ltb r 4 l))
       where
         entry : ℕ → ℕ
         entry p = pick (eqb (p / 16) (half k + 2)) (getD (elementImages (half k) (colDim k) t r) (p % 16) 0) (getD t p 0)
@@ -115,6 +115,6 @@ module _ (t : List ℕ) where
         at p (no q) = f .outside p (apart p q (decLt p (16 * (half k + 2)))) ∙ sym (pick-false _ _ (ne-eqb (p / 16) (half k + 2) q))
 
     -- the table is shifted, and zeros stand past its end
-    pub column-filled : {i : ℕ} {new : List ℕ} → 192 ≤ i + 17 * half k → Upto 192 i (λ p. getD t (p + 17 * half k) 0) new → new ≡ columnImages k t
+    pub column-filled : {i : ℕ} {new : List ℕ} → cells ≤ i + 17 * half k → Upto cells i (λ p. getD t (p + 17 * half k) 0) new → new ≡ columnImages k t
     unfolding columnImages
     column-filled l u = upto-all (λ p g n. List·getD-eq-default t 0 (omega arith)) u

@@ -9,7 +9,7 @@ use lib.ListN.{length, getD, replicate, length-replicate, List·getD-eq-default}
 use Rattle.lists.specs.All.{All, IsZero, All-replicate}
 use Rattle.field.specs.Laws.{Ops, IsField, ring, 0-⊕, ⊕-0, 0-⊗, ⊗-0}
 use Rattle.poly.specs.Poly.{eval, addP, scaleP, addP-sym, scaleP-sym, eval-zeros, length-addP, length-scaleP}
-use Rattle.proximity.specs.Bivariate.{front, final, reduce, shift, digits, eval2}
+use Rattle.proximity.specs.Bivariate.{front, final, reduceByQ, timesX, digits, eval2}
 use Rattle.proximity.specs.TwoVariables.{Digits, evalMonic}
 
 -- The entries from d on are 0
@@ -57,16 +57,16 @@ module _ (K : Ops) where
   length-front e [] = refl
   length-front e (d ∷ s) = ap suc (length-front d s)
 
-  length-reduce : (q : List ℕ) (e : ℕ) (s : List ℕ) → length s ≡ length q → length (reduce K q e s) ≡ length q
-  length-reduce q e s h = omega (arith, length-addP K (front e s) (scaleP K (final e s) q), length-front e s, length-scaleP K (final e s) q)
+  length-reduceByQ : (q : List ℕ) (e : ℕ) (s : List ℕ) → length s ≡ length q → length (reduceByQ K q e s) ≡ length q
+  length-reduceByQ q e s h = omega (arith, length-addP K (front e s) (scaleP K (final e s) q), length-front e s, length-scaleP K (final e s) q)
 
-  length-shift : (q : List ℕ) (e : ℕ) (Q : List (List ℕ)) → length (shift K q e Q) ≡ length Q
-  length-shift q e [] = refl
-  length-shift q e (s ∷ Q) = ap suc (length-shift q (final e s) Q)
+  length-timesX : (q : List ℕ) (e : ℕ) (Q : List (List ℕ)) → length (timesX K q e Q) ≡ length Q
+  length-timesX q e [] = refl
+  length-timesX q e (s ∷ Q) = ap suc (length-timesX q (final e s) Q)
 
   pub length-digits : (q : List ℕ) (n : ℕ) (p : List ℕ) → length (digits K q n p) ≡ n
   length-digits q n [] = length-replicate n (replicate (length q) 0)
-  length-digits q n (c ∷ p) = length-shift q c (digits K q n p) ∙ length-digits q n p
+  length-digits q n (c ∷ p) = length-timesX q c (digits K q n p) ∙ length-digits q n p
 
 module _ {K : Ops} (F : IsField K) where
   infixl 60 _⊕_
@@ -81,13 +81,13 @@ module _ {K : Ops} (F : IsField K) where
   final-sym e [] se ss = se
   final-sym e (d ∷ s) se ss = final-sym d s (ss .0) (ss .1)
 
-  reduce-sym : (q : List ℕ) (e : ℕ) (s : List ℕ) → All Sym q → Sym e → All Sym s → All Sym (reduce K q e s)
-  reduce-sym q e s sq se ss = addP-sym F (front e s) (scaleP K (final e s) q) (front-sym e s se ss) (scaleP-sym F (final e s) q (final-sym e s se ss) sq)
+  reduceByQ-sym : (q : List ℕ) (e : ℕ) (s : List ℕ) → All Sym q → Sym e → All Sym s → All Sym (reduceByQ K q e s)
+  reduceByQ-sym q e s sq se ss = addP-sym F (front e s) (scaleP K (final e s) q) (front-sym e s se ss) (scaleP-sym F (final e s) q (final-sym e s se ss) sq)
 
-  shift-digits : (q : List ℕ) (e : ℕ) (Q : List (List ℕ)) → All Sym q → Sym e → Digits Sym (length q) Q → Digits Sym (length q) (shift K q e Q)
-  shift-digits q e [] sq se g = tt
-  shift-digits q e (s ∷ Q) sq se g =
-      (length-reduce K q e s (g .0), reduce-sym q e s sq se (g .1), shift-digits q (final e s) Q sq (final-sym e s se (g .1)) (g .2))
+  timesX-digits : (q : List ℕ) (e : ℕ) (Q : List (List ℕ)) → All Sym q → Sym e → Digits Sym (length q) Q → Digits Sym (length q) (timesX K q e Q)
+  timesX-digits q e [] sq se g = tt
+  timesX-digits q e (s ∷ Q) sq se g =
+      (length-reduceByQ K q e s (g .0), reduceByQ-sym q e s sq se (g .1), timesX-digits q (final e s) Q sq (final-sym e s se (g .1)) (g .2))
 
   zero-digits : (n m : ℕ) → Digits Sym m (replicate n (replicate m 0))
   zero-digits zero m = tt
@@ -96,23 +96,23 @@ module _ {K : Ops} (F : IsField K) where
   -- The digits have as many coefficients as q has below the highest, and all are elements
   pub digits-digits : (q : List ℕ) (n : ℕ) (p : List ℕ) → All Sym q → All Sym p → Digits Sym (length q) (digits K q n p)
   digits-digits q n [] sq sp = zero-digits n (length q)
-  digits-digits q n (c ∷ p) sq sp = shift-digits q c (digits K q n p) sq (sp .0) (digits-digits q n p sq (sp .1))
+  digits-digits q n (c ∷ p) sq sp = timesX-digits q c (digits K q n p) sq (sp .0) (digits-digits q n p sq (sp .1))
 
   -- ---- values
 
-  reduce-nil : (e x : ℕ) → Sym e → e ⊕ x ⊗ 0 ≡ 0 ⊕ e ⊗ (1 ⊕ x ⊗ 0)
-  reduce-nil e x se = simp (ring, F .one-prod e se, F)
+  reduceByQ-nil : (e x : ℕ) → Sym e → e ⊕ x ⊗ 0 ≡ 0 ⊕ e ⊗ (1 ⊕ x ⊗ 0)
+  reduceByQ-nil e x se = simp (ring, F .one-prod e se, F)
 
-  reduce-step : (e x c l t u w : ℕ) → w ≡ t ⊕ l ⊗ u → e ⊕ x ⊗ w ≡ e ⊕ l ⊗ c ⊕ x ⊗ t ⊕ l ⊗ (c ⊕ x ⊗ u)
-  reduce-step e x c l t u w h = simp (h, ring, F)
+  reduceByQ-step : (e x c l t u w : ℕ) → w ≡ t ⊕ l ⊗ u → e ⊕ x ⊗ w ≡ e ⊕ l ⊗ c ⊕ x ⊗ t ⊕ l ⊗ (c ⊕ x ⊗ u)
+  reduceByQ-step e x c l t u w h = simp (h, ring, F)
 
   -- One elimination step
-  eval-reduce : (q : List ℕ) (e : ℕ) (s : List ℕ) (x : ℕ) → length s ≡ length q → Sym e → All Sym s
-      → eval K (e ∷ s) x ≡ eval K (reduce K q e s) x ⊕ final e s ⊗ evalMonic K q x
-  eval-reduce [] e [] x h se ss = reduce-nil e x se
-  eval-reduce [] e (d ∷ s) x h se ss = absurd (suc-ne-zero _ h)
-  eval-reduce (c ∷ q) e [] x h se ss = absurd (suc-ne-zero _ (sym h))
-  eval-reduce (c ∷ q) e (d ∷ s) x h se ss = reduce-step e x c (final d s) _ _ _ (eval-reduce q d s x (suc-inj h) (ss .0) (ss .1))
+  eval-reduceByQ : (q : List ℕ) (e : ℕ) (s : List ℕ) (x : ℕ) → length s ≡ length q → Sym e → All Sym s
+      → eval K (e ∷ s) x ≡ eval K (reduceByQ K q e s) x ⊕ final e s ⊗ evalMonic K q x
+  eval-reduceByQ [] e [] x h se ss = reduceByQ-nil e x se
+  eval-reduceByQ [] e (d ∷ s) x h se ss = absurd (suc-ne-zero _ h)
+  eval-reduceByQ (c ∷ q) e [] x h se ss = absurd (suc-ne-zero _ (sym h))
+  eval-reduceByQ (c ∷ q) e (d ∷ s) x h se ss = reduceByQ-step e x c (final d s) _ _ _ (eval-reduceByQ q d s x (suc-inj h) (ss .0) (ss .1))
 
   -- ---- the carry out of the last digit is 0
 
@@ -144,18 +144,18 @@ module _ {K : Ops} (F : IsField K) where
       by (yes t) = ap (λ (u : ℕ). u ⊗ getD q i 0) (final-low d e s (omega arith) l) ∙ 0-⊗ F (getD q i 0)
       by (no t) = ap (λ (u : ℕ). final e s ⊗ u) (List·getD-eq-default q 0 {n = i} (omega arith)) ∙ ⊗-0 F (final e s)
 
-  reduce-low : (q : List ℕ) (d e : ℕ) (s : List ℕ) → length s ≡ length q → Low d (e ∷ s) → Low d (reduce K q e s)
-  reduce-low q d e s g l i h =
+  reduceByQ-low : (q : List ℕ) (d e : ℕ) (s : List ℕ) → length s ≡ length q → Low d (e ∷ s) → Low d (reduceByQ K q e s)
+  reduceByQ-low q d e s g l i h =
       getD-addP (front e s) (scaleP K (final e s) q) i ∙ ap₂ _⊕_ (front-low d e s l i h) (multiple-low q d e s g l i h) ∙ 0-⊕ F 0
 
   tail-low : (m d : ℕ) (Q : List (List ℕ)) → LowDigits m (d - 1 - m) Q → LowDigits m (d - m - 1) Q
   tail-low m d Q l = subst (λ (t : ℕ). LowDigits m t Q) (omega arith) l
 
-  shift-low : (q : List ℕ) (d e : ℕ) (Q : List (List ℕ)) → Digits Sym (length q) Q → (d ≡ 0 → e ≡ 0) → LowDigits (length q) (d - 1) Q → LowDigits (length q) d (shift K q e Q)
-  shift-low q d e [] g z l = tt
-  shift-low q d e (s ∷ Q) g z l =
+  timesX-low : (q : List ℕ) (d e : ℕ) (Q : List (List ℕ)) → Digits Sym (length q) Q → (d ≡ 0 → e ≡ 0) → LowDigits (length q) (d - 1) Q → LowDigits (length q) d (timesX K q e Q)
+  timesX-low q d e [] g z l = tt
+  timesX-low q d e (s ∷ Q) g z l =
       let c : Low d (e ∷ s) = cons-low d e s z (l .0) in
-      (reduce-low q d e s (g .0) c, shift-low q (d - length q) (final e s) Q (g .2) (λ t. final-low d e s (omega (arith, g .0)) c) (tail-low (length q) d Q (l .1)))
+      (reduceByQ-low q d e s (g .0) c, timesX-low q (d - length q) (final e s) Q (g .2) (λ t. final-low d e s (omega (arith, g .0)) c) (tail-low (length q) d Q (l .1)))
 
   carry-low : (m d e : ℕ) (Q : List (List ℕ)) → Digits Sym m Q → (d ≡ 0 → e ≡ 0) → LowDigits m (d - 1) Q → d ≤ length Q * m → carry e Q ≡ 0
   carry-low m d e [] g z l h = z (omega (arith, zero-mul m))
@@ -163,34 +163,34 @@ module _ {K : Ops} (F : IsField K) where
       let c : Low d (e ∷ s) = cons-low d e s z (l .0) in
       carry-low m (d - m) (final e s) Q (g .2) (λ t. final-low d e s (omega (arith, g .0)) c) (tail-low m d Q (l .1)) (omega (arith, suc-mul (length Q) m))
 
-  shift-nil : (e x : ℕ) → e ≡ 0 → e ⊕ x ⊗ 0 ≡ 0
-  shift-nil e x z = simp (z, ring, F)
+  timesX-nil : (e x : ℕ) → e ≡ 0 → e ⊕ x ⊗ 0 ≡ 0
+  timesX-nil e x z = simp (z, ring, F)
 
-  shift-apart : (e x y a v : ℕ) → e ⊕ x ⊗ (a ⊕ y ⊗ v) ≡ e ⊕ x ⊗ a ⊕ y ⊗ (x ⊗ v)
-  shift-apart e x y a v = simp (ring, F)
+  timesX-apart : (e x y a v : ℕ) → e ⊕ x ⊗ (a ⊕ y ⊗ v) ≡ e ⊕ x ⊗ a ⊕ y ⊗ (x ⊗ v)
+  timesX-apart e x y a v = simp (ring, F)
 
-  shift-join : (r l y x v : ℕ) → r ⊕ l ⊗ y ⊕ y ⊗ (x ⊗ v) ≡ r ⊕ y ⊗ (l ⊕ x ⊗ v)
-  shift-join r l y x v = simp (ring, F)
+  timesX-join : (r l y x v : ℕ) → r ⊕ l ⊗ y ⊕ y ⊗ (x ⊗ v) ≡ r ⊕ y ⊗ (l ⊕ x ⊗ v)
+  timesX-join r l y x v = simp (ring, F)
 
-  shift-step : (e x y a r l v w : ℕ) → e ⊕ x ⊗ a ≡ r ⊕ l ⊗ y → l ⊕ x ⊗ v ≡ w → e ⊕ x ⊗ (a ⊕ y ⊗ v) ≡ r ⊕ y ⊗ w
-  shift-step e x y a r l v w h k =
-      shift-apart e x y a v ∙ ap (λ (t : ℕ). t ⊕ y ⊗ (x ⊗ v)) h ∙ shift-join r l y x v ∙ ap (λ (t : ℕ). r ⊕ y ⊗ t) k
+  timesX-step : (e x y a r l v w : ℕ) → e ⊕ x ⊗ a ≡ r ⊕ l ⊗ y → l ⊕ x ⊗ v ≡ w → e ⊕ x ⊗ (a ⊕ y ⊗ v) ≡ r ⊕ y ⊗ w
+  timesX-step e x y a r l v w h k =
+      timesX-apart e x y a v ∙ ap (λ (t : ℕ). t ⊕ y ⊗ (x ⊗ v)) h ∙ timesX-join r l y x v ∙ ap (λ (t : ℕ). r ⊕ y ⊗ t) k
 
-  eval-shift : (q : List ℕ) (e : ℕ) (Q : List (List ℕ)) (x : ℕ) → Sym e → Digits Sym (length q) Q → carry e Q ≡ 0
-      → e ⊕ x ⊗ eval2 K Q x (evalMonic K q x) ≡ eval2 K (shift K q e Q) x (evalMonic K q x)
-  eval-shift q e [] x se g z = shift-nil e x z
-  eval-shift q e (s ∷ Q) x se g z =
-      shift-step e x (evalMonic K q x) _ _ (final e s) _ _ (eval-reduce q e s x (g .0) se (g .1)) (eval-shift q (final e s) Q x (final-sym e s se (g .1)) (g .2) z)
+  eval-timesX : (q : List ℕ) (e : ℕ) (Q : List (List ℕ)) (x : ℕ) → Sym e → Digits Sym (length q) Q → carry e Q ≡ 0
+      → e ⊕ x ⊗ eval2 K Q x (evalMonic K q x) ≡ eval2 K (timesX K q e Q) x (evalMonic K q x)
+  eval-timesX q e [] x se g z = timesX-nil e x z
+  eval-timesX q e (s ∷ Q) x se g z =
+      timesX-step e x (evalMonic K q x) _ _ (final e s) _ _ (eval-reduceByQ q e s x (g .0) se (g .1)) (eval-timesX q (final e s) Q x (final-sym e s se (g .1)) (g .2) z)
 
   digits-low : (q : List ℕ) (n : ℕ) (p : List ℕ) → All Sym q → All Sym p → LowDigits (length q) (length p) (digits K q n p)
   digits-low q n [] sq sp = zero-digits-low n (length q)
   digits-low q n (c ∷ p) sq sp =
-      shift-low q (suc (length p)) c (digits K q n p) (digits-digits q n p sq (sp .1)) (λ t. absurd (omega arith))
+      timesX-low q (suc (length p)) c (digits K q n p) (digits-digits q n p sq (sp .1)) (λ t. absurd (omega arith))
       (subst (λ (d : ℕ). LowDigits (length q) d (digits K q n p)) (omega arith) (digits-low q n p sq (sp .1)))
 
   zero-value : (n m x y : ℕ) → eval2 K (replicate n (replicate m 0)) x y ≡ 0
   zero-value zero m x y = refl
-  zero-value (suc n) m x y = ap₂ (λ (u v : ℕ). u ⊕ y ⊗ v) (eval-zeros F (replicate m 0) x (All-replicate IsZero m 0 refl)) (zero-value n m x y) ∙ shift-nil 0 y refl
+  zero-value (suc n) m x y = ap₂ (λ (u v : ℕ). u ⊕ y ⊗ v) (eval-zeros F (replicate m 0) x (All-replicate IsZero m 0 refl)) (zero-value n m x y) ∙ timesX-nil 0 y refl
 
   -- P(x) = Q(x, q(x)) for the digits Q of P
   pub eval-digits : (q : List ℕ) (n : ℕ) (p : List ℕ) (x : ℕ) → All Sym q → All Sym p → length p ≤ n * length q
@@ -198,7 +198,7 @@ module _ {K : Ops} (F : IsField K) where
   eval-digits q n [] x sq sp h = sym (zero-value n (length q) x (evalMonic K q x))
   eval-digits q n (c ∷ p) x sq sp h =
       ap (λ (t : ℕ). c ⊕ x ⊗ t) (eval-digits q n p x sq (sp .1) (omega arith))
-      ∙ eval-shift q c (digits K q n p) x (sp .0) (digits-digits q n p sq (sp .1))
+      ∙ eval-timesX q c (digits K q n p) x (sp .0) (digits-digits q n p sq (sp .1))
       (carry-low (length q) (suc (length p)) c (digits K q n p) (digits-digits q n p sq (sp .1)) (λ t. absurd (omega arith))
       (subst (λ (d : ℕ). LowDigits (length q) d (digits K q n p)) (omega arith) (digits-low q n p sq (sp .1)))
       (omega (arith, ap (λ (t : ℕ). t * length q) (length-digits K q n p))))

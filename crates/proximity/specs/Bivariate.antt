@@ -46,18 +46,18 @@ module _ (K : Ops) where
   qCoeffs k b = monic (2 ^ half k) (elem K (take (half k) b))
 
   -- e + x s, less the multiple of q that takes its highest coefficient away
-  abbrev pub reduce : List ℕ → ℕ → List ℕ → List ℕ
-  reduce q e s = addP K (front e s) (scaleP K (final e s) q)
+  abbrev pub reduceByQ : List ℕ → ℕ → List ℕ → List ℕ
+  reduceByQ q e s = addP K (front e s) (scaleP K (final e s) q)
 
   -- e + x Q, where y stands for q
-  abbrev pub shift : List ℕ → ℕ → List (List ℕ) → List (List ℕ)
-  shift q e [] = []
-  shift q e (s ∷ Q) = reduce q e s ∷ shift q (final e s) Q
+  abbrev pub timesX : List ℕ → ℕ → List (List ℕ) → List (List ℕ)
+  timesX q e [] = []
+  timesX q e (s ∷ Q) = reduceByQ q e s ∷ timesX q (final e s) Q
 
   -- The n lowest digits of a polynomial to the base q
   abbrev pub digits : List ℕ → ℕ → List ℕ → List (List ℕ)
   digits q n [] = replicate n (replicate (length q) 0)
-  digits q n (c ∷ p) = shift q c (digits q n p)
+  digits q n (c ∷ p) = timesX q c (digits q n p)
 
   -- Q of the polynomial P
   abbrev pub bivariate : ℕ → List ℕ → List ℕ → List (List ℕ)

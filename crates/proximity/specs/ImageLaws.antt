@@ -20,7 +20,7 @@ use Rattle.poly.specs.Novel.{image, elem-image}
 use Rattle.poly.specs.Tower.{length-images, image-table, image-take, image-append}
 use Rattle.poly.specs.Codeword.{Basis}
 use Rattle.space.specs.Images.{Images}
-use Rattle.space.specs.Setting.{maxDim}
+use Rattle.space.specs.Sizes.{maxDim, cells}
 use Rattle.proximity.specs.Dim.{half, colDim}
 use Rattle.proximity.specs.Spaces.{β, rowLast, rowBasis, colBasis}
 use Rattle.proximity.specs.declared.Line.{Line}
@@ -112,27 +112,27 @@ module _ (m : ℕ) (irr : Irreducible m) (b t : List ℕ) (I : Images (symbols m
       by-entry : (i j : ℕ) → i < h + 3 → j < h + 2 → Dec (r < 4) → Dec (i < h + 2) → getD (rowImages k t r) (16 * i + j) 0 ≡ image K b j (getD rb i 0)
       unfolding rowImages
       by-entry i j l g (yes u) (yes v) =
-          ap (λ (x : List ℕ). getD x (16 * i + j) 0) (pick-true t (tab 192 new) (lt-ltb r 4 u)) ∙ old i j l g ∙ ap (image K b j) (sym (entry-low i v))
+          ap (λ (x : List ℕ). getD x (16 * i + j) 0) (pick-true t (tab cells new) (lt-ltb r 4 u)) ∙ old i j l g ∙ ap (image K b j) (sym (entry-low i v))
       by-entry i j l g (yes u) (no v) =
           let last : i ≡ h + 2 = omega arith in
-          ap (λ (x : List ℕ). getD x (16 * i + j) 0) (pick-true t (tab 192 new) (lt-ltb r 4 u)) ∙ old i j l g
+          ap (λ (x : List ℕ). getD x (16 * i + j) 0) (pick-true t (tab cells new) (lt-ltb r 4 u)) ∙ old i j l g
           ∙ ap (image K b j) (ap (λ (i : ℕ). getD b i 0) last ∙ sym (pick-true _ (β K k b r) (lt-ltb r 4 u)) ∙ sym entry-last ∙ ap (λ (i : ℕ). getD rb i 0) (sym last))
       by-entry i j l g (no u) (yes v) =
-          ap (λ (x : List ℕ). getD x (16 * i + j) 0) (pick-false t (tab 192 new) (le-ltb r 4 (omega arith))) ∙ getD-tab 192 new (16 * i + j) 0 (omega arith)
+          ap (λ (x : List ℕ). getD x (16 * i + j) 0) (pick-false t (tab cells new) (le-ltb r 4 (omega arith))) ∙ getD-tab cells new (16 * i + j) 0 (omega arith)
           ∙ pick-false _ _ (ne-eqb ((16 * i + j) / 16) (h + 2) (λ e. omega arith)) ∙ old i j l g ∙ ap (image K b j) (sym (entry-low i v))
       by-entry i j l g (no u) (no v) =
           let last : i ≡ h + 2 = omega arith in
           let place : (16 * i + j) % 16 ≡ j = omega arith in
-          ap (λ (x : List ℕ). getD x (16 * i + j) 0) (pick-false t (tab 192 new) (le-ltb r 4 (omega arith))) ∙ getD-tab 192 new (16 * i + j) 0 (omega arith)
+          ap (λ (x : List ℕ). getD x (16 * i + j) 0) (pick-false t (tab cells new) (le-ltb r 4 (omega arith))) ∙ getD-tab cells new (16 * i + j) 0 (omega arith)
           ∙ pick-true _ _ (eq-eqb ((16 * i + j) / 16) (h + 2) (omega arith))
           ∙ ap (λ (p : ℕ). getD (elementImages h (colDim k) t r) p 0) place
           ∙ element-right h (colDim k) (omega arith) r j (omega arith) (omega arith)
           ∙ ap (image K b j) (sym (pick-false (getD b (h + 2) 0) (β K k b r) (le-ltb r 4 (omega arith))) ∙ sym entry-last ∙ ap (λ (i : ℕ). getD rb i 0) (sym last))
 
-      length-row-images : Dec (r < 4) → length (rowImages k t r) ≡ 192
+      length-row-images : Dec (r < 4) → length (rowImages k t r) ≡ cells
       unfolding rowImages
-      length-row-images (yes u) = ap length (pick-true t (tab 192 new) (lt-ltb r 4 u)) ∙ I .count
-      length-row-images (no u) = ap length (pick-false t (tab 192 new) (le-ltb r 4 (omega arith))) ∙ length-tab 192 new
+      length-row-images (yes u) = ap length (pick-true t (tab cells new) (lt-ltb r 4 u)) ∙ I .count
+      length-row-images (no u) = ap length (pick-false t (tab cells new) (le-ltb r 4 (omega arith))) ∙ length-tab cells new
 
       new-sym : (p : ℕ) → Dec (p / 16 ≡ h + 2) → K .Sym (new p)
       new-sym p (yes e) = subst (K .Sym) (sym (pick-true _ _ (eq-eqb (p / 16) (h + 2) e))) (All-at (K .Sym) (elementImages h (colDim k) t r) 0 (element-elements h (colDim k) r) (F .sym-zero) (p % 16))
@@ -140,8 +140,8 @@ module _ (m : ℕ) (irr : Irreducible m) (b t : List ℕ) (I : Images (symbols m
 
       row-elements : Dec (r < 4) → All (K .Sym) (rowImages k t r)
       unfolding rowImages
-      row-elements (yes u) = subst (All (K .Sym)) (sym (pick-true t (tab 192 new) (lt-ltb r 4 u))) (I .elements)
-      row-elements (no u) = subst (All (K .Sym)) (sym (pick-false t (tab 192 new) (le-ltb r 4 (omega arith)))) (All-tab (K .Sym) 192 new (λ p l. new-sym p (ℕ-discrete (p / 16) (h + 2))))
+      row-elements (yes u) = subst (All (K .Sym)) (sym (pick-true t (tab cells new) (lt-ltb r 4 u))) (I .elements)
+      row-elements (no u) = subst (All (K .Sym)) (sym (pick-false t (tab cells new) (le-ltb r 4 (omega arith)))) (All-tab (K .Sym) cells new (λ p l. new-sym p (ℕ-discrete (p / 16) (h + 2))))
 
       pub row-images : Images K rb (rowImages k t r)
       row-images =
@@ -157,12 +157,12 @@ module _ (m : ℕ) (irr : Irreducible m) (b t : List ℕ) (I : Images (symbols m
     unfolding columnImages
     column-images =
         record {
-          count = length-tab 192 shifted;
-          elements = All-tab (K .Sym) 192 shifted (λ p l. entry-sym (p + 17 * h));
+          count = length-tab cells shifted;
+          elements = All-tab (K .Sym) cells shifted (λ p l. entry-sym (p + 17 * h));
           right = λ i j l g. let f : i < k - h = omega (arith, count) in
               let f′ : j + 1 < k - h = omega (arith, count) in
               let place : 16 * i + j + 17 * h ≡ 16 * (h + i) + (h + j) = omega arith in
-              getD-tab 192 shifted (16 * i + j) 0 (omega arith)
+              getD-tab cells shifted (16 * i + j) 0 (omega arith)
               ∙ ap (λ (p : ℕ). getD t p 0) place ∙ I .right (h + i) (h + j) (omega arith) (omega arith)
               ∙ image-table F b h j i (omega arith);
         }

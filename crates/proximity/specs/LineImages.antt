@@ -15,6 +15,7 @@ use Rattle.proximity.specs.Dim.{half, colDim}
 use Rattle.proximity.specs.declared.Line.{Line}
 use Rattle.proximity.specs.Verifier.{byLine}
 use Rattle.proximity.specs.ByLine.{lineBasis}
+use Rattle.space.specs.Sizes.{cells}
 
 -- x with row i of the table added
 unfoldable pub addedRow : List ℕ → ℕ → List ℕ → List ℕ
@@ -31,11 +32,11 @@ elementImages h c t r = tab 16 (λ j. elem (symbols 0) (imageColumn h c t j) r)
 -- Row r: for r ≥ 4 row h+2 of the table gives way to the images of β
 unfoldable pub rowImages : ℕ → List ℕ → ℕ → List ℕ
 rowImages k t r =
-    pick (ltb r 4) t (tab 192 (λ p. pick (eqb (p / 16) (half k + 2)) (getD (elementImages (half k) (colDim k) t r) (p % 16) 0) (getD t p 0)))
+    pick (ltb r 4) t (tab cells (λ p. pick (eqb (p / 16) (half k + 2)) (getD (elementImages (half k) (colDim k) t r) (p % 16) 0) (getD t p 0)))
 
 -- A column: both indices are shifted by h, so each place 16 i + j by 17 h
 unfoldable pub columnImages : ℕ → List ℕ → List ℕ
-columnImages k t = tab 192 (λ p. getD t (p + 17 * half k) 0)
+columnImages k t = tab cells (λ p. getD t (p + 17 * half k) 0)
 
 abbrev pub lineImages : ℕ → List ℕ → Line → List ℕ
 lineImages k t l = byLine l (rowImages k t) (λ a. columnImages k t)

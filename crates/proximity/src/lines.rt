@@ -3,7 +3,7 @@ use super::Line;
 use super::tables::proof_length;
 ghost use mathlib.Core.Path.{_≡_};
 ghost use Prim.Native.Nat.{_+_, _*_, _^_, _<_, _≤_};
-ghost use Rattle.space.specs.Setting.{maxDim};
+ghost use Rattle.space.specs.Sizes.{maxDim};
 ghost use Rattle.proximity.specs.Dim.{half, colDim};
 ghost use Rattle.proximity.specs.Proof.{slot};
 ghost use Rattle.proximity.specs.Verifier.{lineOf, bitsLeft};

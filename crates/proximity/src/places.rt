@@ -11,7 +11,7 @@ use super::lines::slot;
 ghost use mathlib.Core.Path.{_≡_};
 ghost use Prim.Native.Nat.{_^_, _<_, _≤_};
 ghost use lib.ListN.{length};
-ghost use Rattle.space.specs.Setting.{maxDim};
+ghost use Rattle.space.specs.Sizes.{maxDim};
 ghost use Rattle.proximity.specs.Dim.{rowDim, colDim, dim, S};
 ghost use Rattle.proximity.specs.Verifier.{cell, positions};
 ghost use Rattle.proximity.specs.Reads.{Inside};

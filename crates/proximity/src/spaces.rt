@@ -1,13 +1,14 @@
 // The table of a line's space, from that of the space. No product of the field is needed.
 use super::Line;
+use space::CELLS;
 ghost use mathlib.Core.Path.{_≡_};
 ghost use Prim.Native.Nat.{_+_, _≤_, _<_};
 ghost use lib.ListN.{length};
-ghost use Rattle.space.specs.Setting.{maxDim};
+ghost use Rattle.space.specs.Sizes.{maxDim, cells};
 ghost use Rattle.proximity.specs.LineImages.{addedRow, elementImages, rowImages, columnImages, LineTable};
 
 // x with row i of the table added.
-fn with_row(images: &[u16; 192], i: usize, x: [u16; 16]) -> [u16; 16]
+fn with_row(images: &[u16; CELLS], i: usize, x: [u16; 16]) -> [u16; 16]
     requires { ⌜ i < maxDim ⌝ }
     ensures { λ r. ⌜ r ≡ addedRow (now (images .entry)) i x ⌝ }
 {
@@ -22,7 +23,7 @@ fn with_row(images: &[u16; 192], i: usize, x: [u16; 16]) -> [u16; 16]
 }
 
 // The images of the element at the one bits of r, from basis element h on, of c basis elements.
-pub fn element_images(images: &[u16; 192], h: usize, c: usize, r: usize) -> [u16; 16]
+pub fn element_images(images: &[u16; CELLS], h: usize, c: usize, r: usize) -> [u16; 16]
     requires { ⌜ h + c ≤ maxDim ⌝ }
     ensures { λ x. ⌜ x ≡ elementImages h c (now (images .entry)) r ⌝ }
 {
@@ -41,8 +42,8 @@ pub fn element_images(images: &[u16; 192], h: usize, c: usize, r: usize) -> [u16
 }
 
 // The table of row r.
-pub fn row_images(images: &[u16; 192], k: usize, r: usize) -> [u16; 192]
-    requires { ⌜ (7 ≤ k) × (k ≤ maxDim) × (length (now images) ≡ 192) ⌝ }
+pub fn row_images(images: &[u16; CELLS], k: usize, r: usize) -> [u16; CELLS]
+    requires { ⌜ (7 ≤ k) × (k ≤ maxDim) × (length (now images) ≡ cells) ⌝ }
     ensures { λ t. ⌜ t ≡ rowImages k (now (images .entry)) r ⌝ }
 {
     let h = k / 2;
@@ -60,14 +61,14 @@ pub fn row_images(images: &[u16; 192], k: usize, r: usize) -> [u16; 192]
 }
 
 // The table of each column: both indices shifted by h.
-pub fn column_images(images: &[u16; 192], k: usize) -> [u16; 192]
-    requires { ⌜ (7 ≤ k) × (k ≤ maxDim) × (length (now images) ≡ 192) ⌝ }
+pub fn column_images(images: &[u16; CELLS], k: usize) -> [u16; CELLS]
+    requires { ⌜ (7 ≤ k) × (k ≤ maxDim) × (length (now images) ≡ cells) ⌝ }
     ensures { λ t. ⌜ t ≡ columnImages k (now (images .entry)) ⌝ }
 {
     let shift = 17 * (k / 2);
-    let mut t = [0u16; 192];
+    let mut t = [0u16; CELLS];
     let mut p = 0;
-    while p + shift < 192 {
+    while p + shift < CELLS {
         t[p] = images[p + shift];
         p += 1;
     }
@@ -78,8 +79,8 @@ pub fn column_images(images: &[u16; 192], k: usize) -> [u16; 192]
 //
 // Ruled out: the table of the space for each row, since a row from 4 on has another last basis
 // element; columns over b_(h+1).. in place of their images, since both indices are shifted.
-pub fn line_images(images: &[u16; 192], k: usize, line: Line) -> [u16; 192]
-    requires { ⌜ (7 ≤ k) × (k ≤ maxDim) × (length (now images) ≡ 192) ⌝ }
+pub fn line_images(images: &[u16; CELLS], k: usize, line: Line) -> [u16; CELLS]
+    requires { ⌜ (7 ≤ k) × (k ≤ maxDim) × (length (now images) ≡ cells) ⌝ }
     ensures { λ t. ⌜ LineTable k (now (images .entry)) line t ⌝ }
 {
     match line {

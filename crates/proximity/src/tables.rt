@@ -1,7 +1,7 @@
 // S and R by dimension: how many symbols a proof has, and how many bits a coin.
 ghost use mathlib.Core.Path.{_≡_};
 ghost use Prim.Native.Nat.{_≤_};
-ghost use Rattle.space.specs.Setting.{maxDim};
+ghost use Rattle.space.specs.Sizes.{maxDim};
 ghost use Rattle.proximity.specs.Dim.{S, R};
 
 const LENGTHS: [usize; 13] = [

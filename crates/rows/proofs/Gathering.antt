@@ -12,7 +12,7 @@ use lib.Seq.{length-take-le}
 use Rattle.lists.specs.Filled.{Filled, filled-part, filled-other, put-filled}
 use Rattle.lists.specs.Overwrite.{length-cut, copy-whole}
 use Rattle.lists.specs.Tables.{part, part-fits, part-append, length-part, getD-part, tab-of}
-use Rattle.space.specs.Setting.{maxDim}
+use Rattle.space.specs.Sizes.{maxDim}
 use Rattle.proximity.specs.Dim.{half, rowDim, colDim}
 use Rattle.proximity.specs.Proof.{slot, row, block}
 use Rattle.proximity.specs.Subspaces.{pow-rows, pow-eight}
@@ -29,7 +29,7 @@ cut-part n size m i xs en es =
 
 module _ (k : ℕ) (top : k ≤ maxDim) (w π : List ℕ) (lw : length w ≡ 2 ^ k) (lπ : 7 * 2 ^ k ≤ length π) (r : ℕ) (hr : r < 2 ^ colDim k) (size : ℕ) (es : size ≡ 2 ^ half k) where
   small : 2 ^ k ≤ 4096
-  small = pow-mono {j = 12} top
+  small = pow-mono {j = maxDim} top
 
   pub few-rows : r < 64
   few-rows = let few : 2 ^ colDim k ≤ 2 ^ 6 = pow-mono {j = 6} (omega arith) in omega arith

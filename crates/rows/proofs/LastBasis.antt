@@ -18,7 +18,7 @@ use Rattle.field.specs.Binary.{_⊕_, degree, Irreducible}
 use Rattle.field.specs.Symbols.{symbols}
 use Rattle.field.specs.Xor.{xor-laws, xor-zero-right}
 use Rattle.poly.specs.Span.{bitOf, elem}
-use Rattle.space.specs.Setting.{maxDim}
+use Rattle.space.specs.Sizes.{maxDim, cells}
 use Rattle.transform.specs.Lanes.{imageAt}
 use Rattle.transform.specs.Spans.{SpanLanes}
 use Rattle.proximity.specs.Dim.{half, colDim}
@@ -34,11 +34,11 @@ module _ (k : ℕ) (s : 7 ≤ k) (top : k ≤ maxDim) (t : List ℕ) (r : ℕ) w
 
   low-table : r < 4 → rowImages k t r ≡ t
   unfolding rowImages
-  low-table h = pick-true t (tab 192 new) (lt-ltb r 4 h)
+  low-table h = pick-true t (tab cells new) (lt-ltb r 4 h)
 
-  high-entry : 4 ≤ r → (p : ℕ) → p < 192 → getD (rowImages k t r) p 0 ≡ new p
+  high-entry : 4 ≤ r → (p : ℕ) → p < cells → getD (rowImages k t r) p 0 ≡ new p
   unfolding rowImages
-  high-entry h p l = ap (λ (x : List ℕ). getD x p 0) (pick-false t (tab 192 new) (le-ltb r 4 h)) ∙ getD-tab 192 new p 0 l
+  high-entry h p l = ap (λ (x : List ℕ). getD x p 0) (pick-false t (tab cells new) (le-ltb r 4 h)) ∙ getD-tab cells new p 0 l
 
   -- the basis elements before the last
   old-entry : (i j : ℕ) → i < half k + 2 → j < 16 → imageAt (rowImages k t r) i j ≡ imageAt t i j

@@ -15,7 +15,7 @@ use Rattle.field.specs.Xor.{xor-zero-right}
 use Rattle.field.specs.declared.Field.{Field}
 use Rattle.poly.specs.Span.{elem, elem-sym}
 use Rattle.poly.specs.Transform.{inverse, inverse-ext}
-use Rattle.space.specs.Setting.{maxDim}
+use Rattle.space.specs.Sizes.{maxDim}
 use Rattle.transform.specs.Lanes.{imageAt, laneShift, InLanes, Interpolated}
 use Rattle.transform.specs.Slices.{Transposed}
 use Rattle.transform.specs.Spans.{Zeros, imageList, SpanLanes}

@@ -16,7 +16,7 @@ use Rattle.field.specs.Binary.{_⊕_, degree}
 use Rattle.field.specs.Symbols.{symbols}
 use Rattle.field.specs.declared.Field.{Field}
 use Rattle.poly.specs.Transform.{transform, transform-ext}
-use Rattle.space.specs.Setting.{maxDim}
+use Rattle.space.specs.Sizes.{maxDim}
 use Rattle.transform.specs.Lanes.{imageAt, laneShift, InLanes, Evaluated}
 use Rattle.transform.specs.Spans.{Zeros}
 use Rattle.proximity.specs.Dim.{half, colDim}
@@ -29,7 +29,7 @@ use Rattle.rows.proofs.LastBasis.{block-low, block-high}
 
 -- 1, shifted
 pub power : (k : ℕ) → k ≤ maxDim → 1 * 2 ^ k % 18446744073709551616 ≡ 2 ^ k
-power k h = let few : 2 ^ k ≤ 2 ^ 12 = pow-mono {j = 12} h in omega arith
+power k h = let few : 2 ^ k ≤ 2 ^ maxDim = pow-mono {j = maxDim} h in omega arith
 
 -- ---- the copy
 

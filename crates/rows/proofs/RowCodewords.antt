@@ -21,7 +21,7 @@ use Rattle.poly.specs.Degree.{monomials, length-monomials, monomials-sym}
 use Rattle.poly.specs.Codeword.{Basis, wordOf, Codeword}
 use Rattle.poly.specs.Blocks.{blockValues, word-of-blocks}
 use Rattle.space.specs.Images.{Images}
-use Rattle.space.specs.Setting.{maxDim}
+use Rattle.space.specs.Sizes.{maxDim}
 use Rattle.transform.specs.Lanes.{imageAt}
 use Rattle.proximity.specs.Dim.{half, rowDim, colDim}
 use Rattle.proximity.specs.Spaces.{β, rowBasis}

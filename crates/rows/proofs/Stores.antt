@@ -15,7 +15,7 @@ use Rattle.lists.specs.Lanes.{lane, lane-is, length-lane, getD-lane}
 use Rattle.lists.specs.Overwrite.{length-cut}
 use Rattle.lists.specs.Pick.{pick-true, pick-false}
 use Rattle.lists.specs.Tables.{tab, length-tab, getD-tab, part}
-use Rattle.space.specs.Setting.{maxDim}
+use Rattle.space.specs.Sizes.{maxDim}
 use Rattle.proximity.specs.Dim.{half, colDim}
 use Rattle.proximity.specs.Proof.{slot, block}
 use Rattle.proximity.specs.Subspaces.{pow-rows}
@@ -126,7 +126,7 @@ module _ (k r j n size rows : ℕ) (s : k ≤ maxDim) (hr : r < 2 ^ colDim k) (h
   lane-fits = omega (arith, at-number, number-fits k r j hr hj d)
 
   pub lane-small : n * size + size ≤ 28672
-  lane-small = omega (arith, at-number, number-fits k r j hr hj d, pow-mono {i = k} {j = 12} s)
+  lane-small = omega (arith, at-number, number-fits k r j hr hj d, pow-mono {i = k} {j = maxDim} s)
 
   length-lane-lent : length (take (n * size + size - n * size) (drop (n * size) old)) ≡ size
   length-lane-lent = length-cut (n * size) size old lane-fits

@@ -13,7 +13,7 @@ use Rattle.field.specs.Products.{Sized}
 use Rattle.field.specs.Symbols.{symbols}
 use Rattle.field.specs.declared.Field.{Field}
 use Rattle.poly.specs.Transform.{transform, inverse}
-use Rattle.space.specs.Setting.{maxDim}
+use Rattle.space.specs.Sizes.{maxDim, cells}
 use Rattle.transform.specs.Lanes.{imageAt}
 use Rattle.proximity.specs.Dim.{half, colDim}
 use Rattle.proximity.specs.Proof.{slot}
@@ -25,7 +25,7 @@ pub record InTable (f : Field) (k : ℕ) (t : List ℕ) : Type 0 where
   pub irreducible : Irreducible (f .modulus)
   pub low : 7 ≤ k
   pub high : k ≤ maxDim
-  pub count : length t ≡ 192
+  pub count : length t ≡ cells
   pub below : Below (2 ^ degree (f .modulus)) t
 
 -- the image of number i of β of row r

@@ -4,6 +4,7 @@ pub mod words;
 use field::Field;
 use proximity::lines;
 use proximity::spaces;
+use space::CELLS;
 use transform::blocks;
 use transform::lanes;
 use transform::slices;
@@ -14,14 +15,14 @@ ghost use lib.ListN.{length, getD, take};
 ghost use Rattle.lists.specs.All.{Below};
 ghost use Rattle.lists.specs.Filled.{Filled};
 ghost use Rattle.field.specs.Binary.{degree};
-ghost use Rattle.space.specs.Setting.{maxDim};
+ghost use Rattle.space.specs.Sizes.{maxDim, cells};
 ghost use Rattle.transform.specs.Spans.{Zeros};
 ghost use Rattle.proximity.specs.Dim.{half, colDim};
 ghost use Rattle.proximity.specs.Proof.{slot};
 ghost use Rattle.rows.specs.Rows.{InTable, number, Coefficients, LastLanes, PassValues, PassStored, Stored};
 
 // The coefficients of each row, from the word's blocks.
-fn interpolate_rows(f: Field, images: &[u16; 192], k: usize, word: &[u16], work: &mut [u16])
+fn interpolate_rows(f: Field, images: &[u16; CELLS], k: usize, word: &[u16], work: &mut [u16])
     requires { ⌜ InTable f k (now images) × (length (now word) ≡ 2 ^ k) × Below (2 ^ degree (f .modulus)) (now word) × (length (now work) ≡ 2 ^ k) ⌝ }
     ensures { λ _. ⌜ Coefficients (f .modulus) k (now (images .entry)) (now (word .entry)) (now (work .exit)) ⌝ }
 {
@@ -32,8 +33,8 @@ fn interpolate_rows(f: Field, images: &[u16; 192], k: usize, word: &[u16], work:
 }
 
 // The lanes of the last basis elements of the rows: b_(h+3) for the first four rows, else β.
-fn last_lanes(images: &[u16; 192], k: usize) -> [u16; 384]
-    requires { ⌜ (7 ≤ k) × (k ≤ maxDim) × (length (now images) ≡ 192) ⌝ }
+fn last_lanes(images: &[u16; CELLS], k: usize) -> [u16; 384]
+    requires { ⌜ (7 ≤ k) × (k ≤ maxDim) × (length (now images) ≡ cells) ⌝ }
     ensures { λ r. ⌜ LastLanes k (now (images .entry)) r ⌝ }
 {
     let h = k / 2;
@@ -61,7 +62,7 @@ fn pass_lanes(j: usize, last: &[u16; 384]) -> [u16; 384]
 // Block j of each row, after the coefficients.
 fn evaluate_rows(
     f: Field,
-    images: &[u16; 192],
+    images: &[u16; CELLS],
     k: usize,
     j: usize,
     last: &[u16; 384],
@@ -128,7 +129,7 @@ fn store_rows(k: usize, j: usize, values: &[u16], proof: &mut [u16])
 // Stores the rows, block by block.
 pub fn fill_rows(
     f: Field,
-    images: &[u16; 192],
+    images: &[u16; CELLS],
     k: usize,
     word: &[u16],
     proof: &mut [u16],

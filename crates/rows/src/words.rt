@@ -6,7 +6,7 @@ use transform::slices;
 ghost use mathlib.Core.Path.{_≡_};
 ghost use Prim.Native.Nat.{_+_, _*_, _^_, _<_, _≤_};
 ghost use lib.ListN.{length, take, getD, replicate};
-ghost use Rattle.space.specs.Setting.{maxDim};
+ghost use Rattle.space.specs.Sizes.{maxDim};
 ghost use Rattle.proximity.specs.Dim.{half, rowDim, colDim};
 ghost use Rattle.proximity.specs.Proof.{row, column, block};
 ghost use Rattle.proximity.specs.ByLine.{InRange, lineDim, lineWord};

@@ -20,8 +20,9 @@ use Rattle.poly.specs.Novel.{W, step, image, W-suc, step-sym, elem-high, image-
 use Rattle.space.specs.Values.{valueAt, imageAt}
 use Rattle.space.specs.Setting.{imagesOf, stepsOf, inversesOf, noTables, tablesOf, Tabled}
 use Rattle.space.specs.declared.Tables.{Tables}
+use Rattle.space.specs.Sizes.{maxDim, cells}
 
-module _ (m : ℕ) (irr : Irreducible m) (bs : List ℕ) (few : length bs ≤ 12) (sb : Below (2 ^ degree m) bs) where
+module _ (m : ℕ) (irr : Irreducible m) (bs : List ℕ) (few : length bs ≤ maxDim) (sb : Below (2 ^ degree m) bs) where
   abbrev K : Ops
   K = symbols m
 
@@ -36,13 +37,13 @@ module _ (m : ℕ) (irr : Irreducible m) (bs : List ℕ) (few : length bs ≤ 12
   inverseOf j = inverse m (step K bs j)
 
   pub record SoFar (i : ℕ) (is ss vs : List ℕ) : Type 0 where
-    pub rows : Upto 192 (16 * i) imageOf is
+    pub rows : Upto cells (16 * i) imageOf is
     pub steps : Upto 16 i (step K bs) ss
     pub inverses : Upto 16 i inverseOf vs
     pub nonzero : (j : ℕ) → j < i → step K bs j ≢ 0
 
-  so-far-none : SoFar 0 (replicate 192 0) (replicate 16 0) (replicate 16 0)
-  so-far-none = record { rows = upto-none 192 imageOf; steps = upto-none 16 (step K bs); inverses = upto-none 16 inverseOf; nonzero = λ j h. absurd (omega arith) }
+  so-far-none : SoFar 0 (replicate cells 0) (replicate 16 0) (replicate 16 0)
+  so-far-none = record { rows = upto-none cells imageOf; steps = upto-none 16 (step K bs); inverses = upto-none 16 inverseOf; nonzero = λ j h. absurd (omega arith) }
 
   pub so-far-start : {t : Tables} → t ≡ noTables → SoFar 0 (t .images) (t .steps) (t .inverses)
   unfolding noTables
@@ -100,7 +101,7 @@ module _ (m : ℕ) (irr : Irreducible m) (bs : List ℕ) (few : length bs ≤ 12
         side j (yes k) = inl k
         side j (no k) = inr (omega arith)
 
-        place : (p : ℕ) → p < 16 * (i + 1) → p < 192 → Dec (p < 16 * i) → getD (set new (17 * i) 1) p 0 ≡ imageOf p
+        place : (p : ℕ) → p < 16 * (i + 1) → p < cells → Dec (p < 16 * i) → getD (set new (17 * i) 1) p 0 ≡ imageOf p
         place p k l (yes q) = getD-set-other new (17 * i) p 1 0 (λ e. omega arith) ∙ w .outside p (inl q) ∙ s .rows .done p q l
         place p k l (no q) =
             let row : p / 16 ≡ i = omega arith in
@@ -108,7 +109,7 @@ module _ (m : ℕ) (irr : Irreducible m) (bs : List ℕ) (few : length bs ≤ 12
             ap (λ (t : ℕ). getD (set new (17 * i) 1) t 0) (sym split) ∙ row-at (p % 16) (omega arith) (side (p % 16) (decLt (p % 16) i)) (ℕ-discrete (p % 16) i)
             ∙ ap (λ (t : ℕ). image K bs (p % 16) (getD bs t 0)) (sym row)
 
-        rows-next : Upto 192 (16 * (i + 1)) imageOf (set new (17 * i) 1)
+        rows-next : Upto cells (16 * (i + 1)) imageOf (set new (17 * i) 1)
         rows-next =
             record {
               count = length-set new (17 * i) 1 ∙ w .kept ∙ s .rows .count;

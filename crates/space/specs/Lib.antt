@@ -1,4 +1,5 @@
 -- The checked setting, the table of a space, and the values of the subspace polynomials.
+pub mod Sizes
 pub mod Images
 pub mod Ready
 pub mod Setting

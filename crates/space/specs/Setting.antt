@@ -17,10 +17,7 @@ use Rattle.poly.specs.Novel.{step, image}
 use Rattle.space.specs.declared.Tables.{Tables}
 use Rattle.space.specs.declared.Setting.{Setting}
 use Rattle.space.specs.declared.Checked.{Checked}
-
--- the largest dimension
-abbrev pub maxDim : ℕ
-maxDim = 12
+use Rattle.space.specs.Sizes.{maxDim, cells}
 
 -- checks 3 and 4
 abbrev pub basisChecks : ℕ → List ℕ → Checks
@@ -39,7 +36,7 @@ settingChecks m bs = modulusChecks m ++ basisChecks m bs ++ spanChecks m bs
 module _ (K : Ops) (bs : List ℕ) where
   -- the image of number j of b_(i+1) at 16 i + j
   abbrev pub imagesOf : List ℕ
-  imagesOf = tab 192 (λ p. image K bs (p % 16) (getD bs (p / 16) 0))
+  imagesOf = tab cells (λ p. image K bs (p % 16) (getD bs (p / 16) 0))
 
   abbrev pub stepsOf : List ℕ
   stepsOf = tab 16 (step K bs)
@@ -54,7 +51,7 @@ abbrev zeros : ℕ → List ℕ
 zeros n = replicate n 0
 
 unfoldable pub noTables : Tables
-noTables = record { independent = false; images = zeros 192; steps = zeros 16; inverses = zeros 16 }
+noTables = record { independent = false; images = zeros cells; steps = zeros 16; inverses = zeros 16 }
 
 abbrev pub Tabled : ℕ → List ℕ → Tables → Type 0
 Tabled m bs t = (Independent (symbols m) bs × (t ≡ tablesOf (symbols m) bs)) ⊎ ((Independent (symbols m) bs → ⊥) × (t ≡ noTables))
@@ -79,7 +76,7 @@ unfoldable pub noSetting : Setting
 noSetting =
     record {
       field = record { modulus = 0; degree = 0 };
-      space = record { k = 0; images = zeros 192 };
+      space = record { k = 0; images = zeros cells };
       basis = zeros 16;
       steps = zeros 16;
       inverses = zeros 16;

@@ -15,7 +15,8 @@ use Rattle.field.specs.Laws.{IsField}
 use Rattle.field.specs.Symbols.{symbols, symbols-field}
 use Rattle.poly.specs.Codeword.{Basis}
 use Rattle.poly.specs.Span.{Independent}
-use Rattle.space.specs.Setting.{maxDim, basisChecks, spanChecks, settingChecks}
+use Rattle.space.specs.Setting.{basisChecks, spanChecks, settingChecks}
+use Rattle.space.specs.Sizes.{maxDim}
 
 pub record Sound (m : ℕ) (bs : List ℕ) : Type 0 where
   pub modulus : GoodModulus m

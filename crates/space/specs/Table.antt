@@ -11,14 +11,15 @@ use Rattle.poly.specs.Novel.{image, image-sym, getD-sym}
 use Rattle.space.specs.Images.{Images}
 use Rattle.space.specs.Setting.{imagesOf}
 use Rattle.space.specs.Sound.{Sound, sound-field}
+use Rattle.space.specs.Sizes.{cells}
 
 pub sound-images : {m : ℕ} {bs : List ℕ} → Sound m bs → Images (symbols m) bs (imagesOf (symbols m) bs)
 sound-images {m} {bs} s =
     record {
-      count = length-tab 192 entry;
-      elements = All-tab (symbols m .Sym) 192 entry (λ p h. image-sym F bs (s .basis .elements) (p % 16) (getD bs (p / 16) 0) (getD-sym F bs (p / 16) (s .basis .elements)));
+      count = length-tab cells entry;
+      elements = All-tab (symbols m .Sym) cells entry (λ p h. image-sym F bs (s .basis .elements) (p % 16) (getD bs (p / 16) 0) (getD-sym F bs (p / 16) (s .basis .elements)));
       right = λ i j hi hj.
-          getD-tab 192 entry (16 * i + j) 0 (omega (arith, s .high))
+          getD-tab cells entry (16 * i + j) 0 (omega (arith, s .high))
           ∙ place i j (omega (arith, s .high));
     }
   where

@@ -16,14 +16,18 @@ ghost use Rattle.field.specs.Checks.{modulusChecks};
 ghost use Rattle.lists.specs.Answers.{Answers};
 ghost use mathlib.Core.List.{_++_};
 ghost use Rattle.space.specs.Setting.{Tabled, noTables, noSetting, paddedOf, basisChecks, Made, Settled};
+ghost use Rattle.space.specs.Sizes.{maxDim};
 
 // The largest dimension.
 pub const MAX: usize = 12;
 
+// The places of the table of a space: 16 for each basis element.
+pub const CELLS: usize = 16 * MAX;
+
 // The dimension, and the normalised image of number j of b_(i+1) at 16 * i + j.
 pub struct Space {
     pub k: usize,
-    pub images: [u16; 192],
+    pub images: [u16; CELLS],
 }
 
 // The basis, the steps W_j(b_(j+1)) and their inverses, each with zeros past the dimension.
@@ -44,7 +48,7 @@ pub struct Checked {
 // The images, steps and inverses of a basis, or zeros where it is dependent.
 pub struct Tables {
     pub independent: bool,
-    pub images: [u16; 192],
+    pub images: [u16; CELLS],
     pub steps: [u16; 16],
     pub inverses: [u16; 16],
 }
@@ -54,7 +58,7 @@ fn no_tables() -> Tables
 {
     Tables {
         independent: false,
-        images: [0u16; 192],
+        images: [0u16; CELLS],
         steps: [0u16; 16],
         inverses: [0u16; 16],
     }
@@ -62,7 +66,7 @@ fn no_tables() -> Tables
 
 // The tables of a basis. It is dependent exactly when a step is 0.
 fn tabulate(f: Field, basis: &[u16]) -> Tables
-    requires { ⌜ Sized f × Irreducible (f .modulus) × (length (now basis) ≤ 12) × Below (2 ^ degree (f .modulus)) (now basis) ⌝ }
+    requires { ⌜ Sized f × Irreducible (f .modulus) × (length (now basis) ≤ maxDim) × Below (2 ^ degree (f .modulus)) (now basis) ⌝ }
     ensures { λ r. ⌜ Tabled (f .modulus) (now (basis .entry)) r ⌝ }
 {
     let none = no_tables();
@@ -98,7 +102,7 @@ pub fn no_setting() -> Setting
         },
         space: Space {
             k: 0,
-            images: [0u16; 192],
+            images: [0u16; CELLS],
         },
         basis: [0u16; 16],
         steps: [0u16; 16],
@@ -117,7 +121,7 @@ fn refused(number: u8) -> Checked
 
 // The basis, with zeros past its end.
 fn padded(basis: &[u16]) -> [u16; 16]
-    requires { ⌜ length (now basis) ≤ 12 ⌝ }
+    requires { ⌜ length (now basis) ≤ maxDim ⌝ }
     ensures { λ r. ⌜ r ≡ paddedOf (now (basis .entry)) ⌝ }
 {
     let mut out = [0u16; 16];
@@ -159,7 +163,7 @@ fn refusal(modulus: u32, basis: &[u16]) -> u8
 
 // The setting of a basis that passed checks 1 to 4: check 5.
 fn settle(f: Field, basis: &[u16]) -> Checked
-    requires { ⌜ Sized f × Irreducible (f .modulus) × (length (now basis) ≤ 12) × Below (2 ^ degree (f .modulus)) (now basis) ⌝ }
+    requires { ⌜ Sized f × Irreducible (f .modulus) × (length (now basis) ≤ maxDim) × Below (2 ^ degree (f .modulus)) (now basis) ⌝ }
     ensures { λ r. ⌜ Made (f .modulus) (now (basis .entry)) r ⌝ }
 {
     let t = tabulate(f, basis);

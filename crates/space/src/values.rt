@@ -8,6 +8,7 @@ ghost use Rattle.lists.specs.Filled.{Filled};
 ghost use Rattle.field.specs.Binary.{degree};
 ghost use Rattle.field.specs.Products.{Sized};
 ghost use Rattle.space.specs.Values.{valueAt, imageAt};
+ghost use Rattle.space.specs.Sizes.{maxDim, cells};
 
 // W_j(x), where steps has W_i(b_(i+1)) for i below j.
 pub fn value(f: Field, steps: &[u16; 16], j: usize, x: u16) -> u16
@@ -33,8 +34,8 @@ pub fn fill_row(
     inverses: &[u16; 16],
     images: &mut [u16],
 ) -> u16
-    requires { ⌜ Sized f × (i < 12) × (x < 2 ^ degree (f .modulus)) ⌝ }
-    requires { ⌜ Below (2 ^ degree (f .modulus)) (now steps) × Below (2 ^ degree (f .modulus)) (now inverses) × (length (now images) ≡ 192) ⌝ }
+    requires { ⌜ Sized f × (i < maxDim) × (x < 2 ^ degree (f .modulus)) ⌝ }
+    requires { ⌜ Below (2 ^ degree (f .modulus)) (now steps) × Below (2 ^ degree (f .modulus)) (now inverses) × (length (now images) ≡ cells) ⌝ }
     ensures { λ r. ⌜ (r ≡ valueAt (f .modulus) (now (steps .entry)) i x) × Filled (16 * i) i (imageAt (f .modulus) (now (steps .entry)) (now (inverses .entry)) x) (now (images .entry)) (now (images .exit)) ⌝ }
 {
     let mut y = x;

@@ -10,7 +10,8 @@ use Rattle.field.specs.Binary.{degree}
 use Rattle.field.specs.Calls.{modulus-numbered}
 use Rattle.field.specs.Checks.{modulusChecks, good-passes, not-less}
 use Rattle.space.specs.Ready.{Ready, ready}
-use Rattle.space.specs.Setting.{maxDim, spanChecks, SettledBy, settingOf}
+use Rattle.space.specs.Setting.{spanChecks, SettledBy, settingOf}
+use Rattle.space.specs.Sizes.{maxDim}
 use Rattle.space.specs.Sound.{Sound, sound, sound-passes}
 use Rattle.space.specs.declared.Checked.{Checked}
 use Rattle.space.specs.declared.Setting.{Setting}

@@ -6,7 +6,7 @@ use lib.ListN.{length}
 use Rattle.lists.specs.Answers.{Checks}
 use Rattle.field.specs.Laws.{Ops}
 use Rattle.field.specs.Symbols.{symbols}
-use Rattle.space.specs.Setting.{maxDim}
+use Rattle.space.specs.Sizes.{maxDim}
 use Rattle.proximity.specs.Dim.{dim, S, R}
 use Rattle.proximity.specs.Verifier.{Accepts}
 use Rattle.verifier.specs.Checker.{readsOf, Answered}

@@ -28,6 +28,7 @@ use Rattle.proximity.specs.declared.Line.the-variants.{Row, Column}
 use Rattle.proximity.specs.declared.Place.{Place}
 use Rattle.proximity.specs.declared.Place.the-variants.{InWord, InProof}
 use Rattle.verifier.specs.Checker.{symbolsAt}
+use Rattle.space.specs.Sizes.{cells}
 
 -- j is the dimension of the space at which the coin ends, and where t is the table of a space of dimension k, u is that of the last space
 pub record LeafTable (k : ℕ) (t : List ℕ) (coin j : ℕ) (u : List ℕ) : Type 0 where
@@ -36,30 +37,30 @@ pub record LeafTable (k : ℕ) (t : List ℕ) (coin j : ℕ) (u : List ℕ) : Ty
 
 -- on the way: the bits `rest` lead on from dimension j and the table u
 pub record Leads (k : ℕ) (t : List ℕ) (coin j : ℕ) (u : List ℕ) (rest : ℕ) : Type 0 where
-  pub count : length u ≡ 192
+  pub count : length u ≡ cells
   pub dimension : leafDim (dim j) rest ≡ leafDim (dim k) coin
   pub right : (m : ℕ) → Irreducible m → (b : List ℕ) → Basis (symbols m) k b → Images (symbols m) b t
       → (c : List ℕ) × (Basis (symbols m) j c × (Images (symbols m) c u × (leafBasis (symbols m) (dim j) c rest ≡ leafBasis (symbols m) (dim k) b coin)))
 
-pub leads-none : (k : ℕ) (t : List ℕ) (coin : ℕ) → length t ≡ 192 → Leads k t coin k t coin
+pub leads-none : (k : ℕ) (t : List ℕ) (coin : ℕ) → length t ≡ cells → Leads k t coin k t coin
 leads-none k t coin e = record { count = e; dimension = refl; right = λ m i b B I. (b, (B, (I, refl))) }
 
 -- ---- one line further
 
-length-row-table : (k : ℕ) (t : List ℕ) (r : ℕ) → length t ≡ 192 → length (rowImages k t r) ≡ 192
+length-row-table : (k : ℕ) (t : List ℕ) (r : ℕ) → length t ≡ cells → length (rowImages k t r) ≡ cells
 unfolding rowImages pick
 length-row-table k t r e =
     by (ltb r 4) (λ p. pick (eqb (p / 16) (half k + 2)) (getD (elementImages (half k) (colDim k) t r) (p % 16) 0) (getD t p 0))
   where
-    by : (s : Bool) (g : ℕ → ℕ) → length (pick s t (tab 192 g)) ≡ 192
+    by : (s : Bool) (g : ℕ → ℕ) → length (pick s t (tab cells g)) ≡ cells
     by true g = e
-    by false g = length-tab 192 g
+    by false g = length-tab cells g
 
-length-column-table : (k : ℕ) (t : List ℕ) → length (columnImages k t) ≡ 192
+length-column-table : (k : ℕ) (t : List ℕ) → length (columnImages k t) ≡ cells
 unfolding columnImages
-length-column-table k t = length-tab 192 (λ p. getD t (p + 17 * half k) 0)
+length-column-table k t = length-tab cells (λ p. getD t (p + 17 * half k) 0)
 
-length-line-table : (k : ℕ) (t : List ℕ) (l : Line) (r : List ℕ) → length t ≡ 192 → LineTable k t l r → length r ≡ 192
+length-line-table : (k : ℕ) (t : List ℕ) (l : Line) (r : List ℕ) → length t ≡ cells → LineTable k t l r → length r ≡ cells
 length-line-table k t (Row a) r e T = ap length (T .entries) ∙ length-row-table k t a e
 length-line-table k t (Column a) r e T = ap length (T .entries) ∙ length-column-table k t
 

@@ -12,7 +12,8 @@ use Rattle.lists.specs.Decides.{equal-stable}
 use Rattle.lists.specs.Tables.{length-tab}
 use Rattle.field.specs.Calls.{modulus-numbered}
 use Rattle.field.specs.Checks.{modulusChecks, GoodModulus, modulus-passed, good-passes, not-less}
-use Rattle.space.specs.Setting.{maxDim, SettledBy, Settled}
+use Rattle.space.specs.Setting.{SettledBy, Settled}
+use Rattle.space.specs.Sizes.{maxDim}
 use Rattle.space.specs.Sound.{Sound, sound}
 use Rattle.space.specs.declared.Checked.{Checked}
 use Rattle.stored.specs.Bytes.{twoAt, fourAt, numbersAt}

@@ -10,7 +10,8 @@ use Rattle.field.specs.Binary.{degree}
 use Rattle.field.specs.Checks.{modulusChecks}
 use Rattle.field.specs.Symbols.{symbols}
 use Rattle.poly.specs.Span.{Independent}
-use Rattle.space.specs.Setting.{maxDim, settingOf, noSetting}
+use Rattle.space.specs.Setting.{settingOf, noSetting}
+use Rattle.space.specs.Sizes.{maxDim}
 use Rattle.proximity.specs.Dim.{S}
 use Rattle.stored.specs.Bytes.{fourAt, numbersAt}
 use Rattle.stored.specs.File.{wordRecordAt, wordAt, proofRecordAt, proofAt, fileEnd, modulusIn, dimIn, basisIn, Opens}

@@ -20,6 +20,7 @@ use Rattle.stored.specs.File.{settingRecord, symbolRecord, wordRecord, p
 use Rattle.stored.specs.Passed.{Head, Held}
 use Rattle.stored.specs.Reader.{fileChecks}
 use Rattle.stored.specs.Whole.{Delivery, Gives}
+use Rattle.space.specs.Sizes.{maxDim}
 
 pub length-symbol-record : (a b : ℕ) (xs : List ℕ) → length (symbolRecord a b xs) ≡ 6 + 2 * length xs
 length-symbol-record a b xs = omega (arith, length-pairs xs)
@@ -69,7 +70,7 @@ module _ (m : ℕ) (bs w π : List ℕ) (d : Delivery m bs w π) where
   short xs b = All-of (λ (x : ℕ). x < 65536) xs 0 (λ i h. lt-of-lt-of-le (All-inside (λ (x : ℕ). x < 2 ^ degree m) xs 0 b i h) symbols-small)
 
   word-few : length w < 4294967296
-  word-few = omega (arith, d .word, pow-mono {i = k} {j = 12} (d .setting .high))
+  word-few = omega (arith, d .word, pow-mono {i = k} {j = maxDim} (d .setting .high))
 
   proof-few : length π < 4294967296
   proof-few = omega (arith, d .proof, S-small k (omega (arith, d .setting .high)))

@@ -6,6 +6,7 @@ use proximity::Place;
 use proximity::lines;
 use proximity::places;
 use proximity::spaces;
+use space::CELLS;
 use space::Space;
 use transform::blocks;
 use verifier::Verdict;
@@ -19,7 +20,7 @@ ghost use Rattle.field.specs.Binary.{degree};
 ghost use Rattle.field.specs.Symbols.{symbols};
 ghost use Rattle.poly.specs.Codeword.{Basis, Codeword};
 ghost use Rattle.space.specs.Images.{Images};
-ghost use Rattle.space.specs.Setting.{maxDim};
+ghost use Rattle.space.specs.Sizes.{maxDim, cells};
 ghost use Rattle.transform.specs.Blocks.{InBlocks};
 ghost use Rattle.proximity.specs.ByLine.{placeAt};
 ghost use Rattle.proximity.specs.Dim.{S};
@@ -32,7 +33,7 @@ ghost use Rattle.stored.specs.Leaf.{LeafTable};
 
 // The space at which a coin ends.
 fn leaf_space(s: Space, coin: u64) -> Space
-    requires { ⌜ (s .k ≤ maxDim) × (length (s .images) ≡ 192) ⌝ }
+    requires { ⌜ (s .k ≤ maxDim) × (length (s .images) ≡ cells) ⌝ }
     ensures { λ r. ⌜ LeafTable (s .k) (s .images) coin (r .k) (r .images) ⌝ }
 {
     let mut k = s.k;
@@ -80,7 +81,7 @@ fn symbols(file: &[u8], word: usize, proof: usize, k: usize, coin: u64, n: usize
 }
 
 // Whether the first 2^k symbols are a codeword.
-fn accepts(f: Field, k: usize, images: &[u16; 192], read: [u16; 64]) -> bool
+fn accepts(f: Field, k: usize, images: &[u16; CELLS], read: [u16; 64]) -> bool
     requires { ⌜ InBlocks f (now images) k (take (2 ^ k) read) × (k ≤ 6) × (length read ≡ 64) ⌝ }
     ensures { λ r. ⌜ ((b : List ℕ) → Basis (symbols (f .modulus)) k b → Images (symbols (f .modulus)) b (now (images .entry)) → Decides r (Codeword (symbols (f .modulus)) k b (take (2 ^ k) read))) ⌝ }
 {

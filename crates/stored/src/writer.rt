@@ -5,7 +5,7 @@ use proximity::tables;
 ghost use Prim.Native.Nat.{_≤_};
 ghost use Rattle.lists.specs.Answers.{Answers};
 ghost use Rattle.field.specs.Products.{Sized};
-ghost use Rattle.space.specs.Setting.{maxDim};
+ghost use Rattle.space.specs.Sizes.{maxDim};
 ghost use Rattle.stored.specs.Writer.{lengthChecks, rangeChecks, writerChecks};
 
 // Check 6, of the lengths of word, proof and output.

@@ -30,6 +30,7 @@ use Rattle.codec.specs.declared.Outcome.the-variants.{Done}
 use Rattle.prover.specs.Calls.{lengthChecks, Proven}
 use Rattle.codec.specs.Lengths.{lengths-right}
 use Rattle.terms.specs.Answer.{answered-one, same-answer}
+use Rattle.codec.specs.Scratch.{scratchFor}
 
 -- ---- the checker
 
@@ -70,11 +71,11 @@ module _ (m : ℕ) (bs : List ℕ) (s : Sound m bs) (w π : List ℕ) (lw : leng
   WrittenByTheProver old scratch = Proven m bs w old π scratch (zeros (length scratch)) Done
 
   -- Sentence 3, first part, of the two calls: the pairs accepted at all coins are those that the prover leaves; it leaves no other (`one-proving`).
-  pub accepted-exactly-written : (old scratch : List ℕ) → length old ≡ S (length bs) → 4 * 2 ^ length bs ≤ length scratch → AcceptedAtAllCoins ↔ WrittenByTheProver old scratch
+  pub accepted-exactly-written : (old scratch : List ℕ) → length old ≡ S (length bs) → scratchFor (length bs) ≤ length scratch → AcceptedAtAllCoins ↔ WrittenByTheProver old scratch
   accepted-exactly-written old scratch lo ls = ((λ f. written (accepted-exactly .0 f)), λ p. accepted-exactly .1 (p .right))
     where
       lengths : Passes (lengthChecks (length bs) (length w) (length old) (length scratch))
-      lengths = lengths-right (length w) (2 ^ length bs) (length old) (S (length bs)) (length scratch) (4 * 2 ^ length bs) lw lo ls
+      lengths = lengths-right (length w) (2 ^ length bs) (length old) (S (length bs)) (length scratch) (scratchFor (length bs)) lw lo ls
 
       written : PairOfAPolynomial → WrittenByTheProver old scratch
       written (P, H) =

@@ -19,6 +19,7 @@ use Rattle.poly.specs.Poly.{addP}
 use Rattle.poly.specs.Transform.{folded, unfolded, transform, inverse, shifted, transform-layer, inverse-layer, transform-ext, inverse-ext}
 use Rattle.transform.specs.Layers.{Layered, Unlayered}
 use Rattle.transform.specs.Lanes.{imageAt, laneShift, Shifted, InLanes, Evaluated, Interpolated}
+use Rattle.space.specs.Sizes.{maxDim}
 
 pub next-pow : (i : ℕ) → 2 ^ (i + 1) ≡ 2 ^ i + 2 ^ i
 next-pow i = ap (λ (k : ℕ). 2 ^ k) (add-one i) ∙ pow-suc 2 i ∙ omega arith
@@ -86,14 +87,14 @@ module _ (f : Field) (images lanes : List ℕ) (count m : ℕ) (shift old : List
       at xs b = All-at (λ y. y < 2 ^ degree (f .modulus)) xs 0 b (pow-pos (degree (f .modulus)))
 
 -- the shift of the upper half in lane r
-upper-shift : (images lanes : List ℕ) (count m : ℕ) (shift x : List ℕ) → m ≤ 12 → Shifted images m shift x → (q r i : ℕ) → i < m
+upper-shift : (images lanes : List ℕ) (count m : ℕ) (shift x : List ℕ) → m ≤ maxDim → Shifted images m shift x → (q r i : ℕ) → i < m
     → laneShift lanes count x r i ≡ shifted (symbols q) (imageAt images) m (laneShift lanes count shift r) i
 upper-shift images lanes count m shift x h s q r i hi =
     ap (λ (t : ℕ). getD lanes (i * count + r) 0 ⊕ t) (s .right i (omega arith)) ∙ sym (xor-assoc (getD lanes (i * count + r) 0) (getD shift i 0) (imageAt images m i))
 
 -- ---- the transform from those of its halves
 
-module _ (q : ℕ) (images lanes : List ℕ) (count m : ℕ) (shift old : List ℕ) (few : m ≤ 12) (pos : 0 < m) (long : length old ≡ 2 ^ m * count) where
+module _ (q : ℕ) (images lanes : List ℕ) (count m : ℕ) (shift old : List ℕ) (few : m ≤ maxDim) (pos : 0 < m) (long : length old ≡ 2 ^ m * count) where
   abbrev size : ℕ
   size = 2 ^ (m - 1)
 

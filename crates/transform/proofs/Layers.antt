@@ -19,6 +19,7 @@ use Rattle.field.specs.Xor.{xor-comm, xor-below}
 use Rattle.poly.specs.Poly.{addP, scaleP, length-addP, length-scaleP, getD-addP, getD-scaleP}
 use Rattle.poly.specs.Transform.{folded, unfolded}
 use Rattle.transform.specs.Layers.{Scaled, LowAdded, Layered, Unlayered}
+use Rattle.space.specs.Sizes.{maxDim}
 
 -- sums keep the bound
 pub low-below : (q n : ℕ) (old new : List ℕ) → Below (2 ^ degree q) old → LowAdded n old new → Below (2 ^ degree q) new
@@ -193,7 +194,7 @@ module _ (q c j count : ℕ) (ts : List ℕ) (es : length ts ≡ count) (factor 
 
 -- ---- as the code cuts the list of number j
 
-pub power : (j : ℕ) → j ≤ 12 → (1 * 2 ^ j) % 18446744073709551616 ≡ 2 ^ j
+pub power : (j : ℕ) → j ≤ maxDim → (1 * 2 ^ j) % 18446744073709551616 ≡ 2 ^ j
 power j h = shl-exact {a = 1} 1 j 64 (lit< tt) (omega arith) ∙ one-mul (2 ^ j)
 
 -- the list of number j

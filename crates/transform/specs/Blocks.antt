@@ -21,13 +21,14 @@ use Rattle.poly.specs.Blocks.{blockShift, blockCoeffs}
 use Rattle.space.specs.Images.{Images}
 use Rattle.transform.specs.Lanes.{imageAt}
 use Rattle.transform.specs.Spans.{imageList}
+use Rattle.space.specs.Sizes.{maxDim}
 
 -- what a transform of the eight blocks takes
 pub record InBlocks (f : Field) (images : List ℕ) (k : ℕ) (values : List ℕ) : Type 0 where
   pub sized : Sized f
   pub irreducible : Irreducible (f .modulus)
   pub low : 3 ≤ k
-  pub high : k ≤ 12
+  pub high : k ≤ maxDim
   pub long : length values ≡ 2 ^ k
   pub image-symbols : Below (2 ^ degree (f .modulus)) images
   pub symbols : Below (2 ^ degree (f .modulus)) values

@@ -10,6 +10,7 @@ use Rattle.field.specs.Symbols.{symbols}
 use Rattle.field.specs.Products.{Sized}
 use Rattle.field.specs.declared.Field.{Field}
 use Rattle.poly.specs.Transform.{transform, inverse}
+use Rattle.space.specs.Sizes.{maxDim}
 
 -- the image of number j of basis element i
 abbrev pub imageAt : List ℕ → ℕ → ℕ → ℕ
@@ -27,7 +28,7 @@ pub record Shifted (images : List ℕ) (i : ℕ) (old new : List ℕ) : Type 0 w
 -- what a transform of 2^m lists of `count` symbols takes
 pub record InLanes (f : Field) (images lanes : List ℕ) (count m : ℕ) (shift values : List ℕ) : Type 0 where
   pub sized : Sized f
-  pub few : m ≤ 12
+  pub few : m ≤ maxDim
   pub long : length values ≡ 2 ^ m * count
   pub room : m * count ≤ length lanes
   pub image-symbols : Below (2 ^ degree (f .modulus)) images

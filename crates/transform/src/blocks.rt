@@ -5,6 +5,7 @@ use super::lanes::interpolate;
 use super::slices::transpose;
 use super::spans::span_lanes;
 use field::Field;
+use space::CELLS;
 ghost use mathlib.Core.Path.{_≡_};
 ghost use mathlib.Core.Logic.{_↔_};
 ghost use Prim.Native.Nat.{ℕ, _/_, _<_, _≤_, _^_};
@@ -21,7 +22,7 @@ pub fn no_shift() -> [u16; 16]
 }
 
 // The values of each block to its coefficients.
-pub fn interpolate_blocks(f: Field, images: &[u16; 192], k: usize, values: &mut [u16])
+pub fn interpolate_blocks(f: Field, images: &[u16; CELLS], k: usize, values: &mut [u16])
     requires { ⌜ InBlocks f (now images) k (now values) ⌝ }
     ensures { λ _. ⌜ BlocksInterpolated (f .modulus) (now (images .entry)) k (now (values .entry)) (now (values .exit)) ⌝ }
 {
@@ -30,7 +31,7 @@ pub fn interpolate_blocks(f: Field, images: &[u16; 192], k: usize, values: &mut 
 }
 
 // The coefficients of each block to its values.
-pub fn evaluate_blocks(f: Field, images: &[u16; 192], k: usize, values: &mut [u16])
+pub fn evaluate_blocks(f: Field, images: &[u16; CELLS], k: usize, values: &mut [u16])
     requires { ⌜ InBlocks f (now images) k (now values) ⌝ }
     ensures { λ _. ⌜ BlocksEvaluated (f .modulus) (now (images .entry)) k (now (values .entry)) (now (values .exit)) ⌝ }
 {
@@ -69,7 +70,13 @@ pub fn equal_lanes(values: &[u16]) -> bool
 // Whether the word of 2^k symbols is a codeword; work ends with the coefficients of each block.
 //
 // Ruled out: true for a word of degree n/8; false for a word of zeros.
-pub fn is_codeword(f: Field, images: &[u16; 192], k: usize, word: &[u16], work: &mut [u16]) -> bool
+pub fn is_codeword(
+    f: Field,
+    images: &[u16; CELLS],
+    k: usize,
+    word: &[u16],
+    work: &mut [u16],
+) -> bool
     requires { ⌜ InBlocks f (now images) k (now word) × (length (now work) ≡ length (now word)) ⌝ }
     ensures { λ r. ⌜ Tested (f .modulus) (now (images .entry)) k (now (word .entry)) r (now (work .exit)) ⌝ }
 {
@@ -79,7 +86,7 @@ pub fn is_codeword(f: Field, images: &[u16; 192], k: usize, word: &[u16], work: 
 }
 
 // The same for a word of at most 64 symbols that is given in lanes.
-pub fn short_codeword(f: Field, k: usize, images: &[u16; 192], symbols: [u16; 64]) -> bool
+pub fn short_codeword(f: Field, k: usize, images: &[u16; CELLS], symbols: [u16; 64]) -> bool
     requires { ⌜ InBlocks f (now images) k (take (2 ^ k) symbols) × (k ≤ 6) ⌝ }
     ensures { λ r. ⌜ TestedLanes (f .modulus) (now (images .entry)) k symbols r ⌝ }
 {

@@ -1,6 +1,7 @@
 // The transform and its inverse in each lane. The points of lane r are shift + x_r + element i; lanes
 // has the images of x_r, that of number j at j * count + r.
 use field::Field;
+use space::CELLS;
 ghost use mathlib.Core.Path.{_≡_};
 ghost use Prim.Native.Nat.{ℕ, _+_, _*_, _/_, _<_, _≤_, _^_};
 ghost use lib.ListN.{length, getD};
@@ -9,6 +10,7 @@ ghost use Rattle.field.specs.Binary.{_⊕_, degree};
 ghost use Rattle.field.specs.Products.{Sized};
 ghost use Rattle.transform.specs.Layers.{Scaled, LowAdded, Layered, Unlayered};
 ghost use Rattle.transform.specs.Lanes.{Shifted, InLanes, Evaluated, Interpolated};
+ghost use Rattle.space.specs.Sizes.{maxDim};
 
 // Adds (t + c) * high to low, where t repeats k times, of the two halves of values.
 fn add_scaled(f: Field, t: &[u16], c: u16, k: usize, values: &mut [u16])
@@ -41,7 +43,7 @@ fn add_low(values: &mut [u16])
 // The layer of number j: lo + v hi and lo + (v + 1) hi, with v the image of number j of the lane's
 // shift.
 fn layer(f: Field, lanes: &[u16], count: usize, j: usize, c: u16, values: &mut [u16])
-    requires { ⌜ Sized f × (c < 2 ^ degree (f .modulus)) × (j < 12) × (j * count + count ≤ length (now lanes)) ⌝ }
+    requires { ⌜ Sized f × (c < 2 ^ degree (f .modulus)) × (j < maxDim) × (j * count + count ≤ length (now lanes)) ⌝ }
     requires { ⌜ Below (2 ^ degree (f .modulus)) (now lanes) × Below (2 ^ degree (f .modulus)) (now values) × (length (now values) ≡ (2 ^ j + 2 ^ j) * count) ⌝ }
     ensures { λ _. ⌜ Layered (f .modulus) j count (λ (r : ℕ). getD (now (lanes .entry)) (j * count + r) 0 ⊕ c) (now (values .entry)) (now (values .exit)) ⌝ }
 {
@@ -53,7 +55,7 @@ fn layer(f: Field, lanes: &[u16], count: usize, j: usize, c: u16, values: &mut [
 
 // The layer of number j back.
 fn inverse_layer(f: Field, lanes: &[u16], count: usize, j: usize, c: u16, values: &mut [u16])
-    requires { ⌜ Sized f × (c < 2 ^ degree (f .modulus)) × (j < 12) × (j * count + count ≤ length (now lanes)) ⌝ }
+    requires { ⌜ Sized f × (c < 2 ^ degree (f .modulus)) × (j < maxDim) × (j * count + count ≤ length (now lanes)) ⌝ }
     requires { ⌜ Below (2 ^ degree (f .modulus)) (now lanes) × Below (2 ^ degree (f .modulus)) (now values) × (length (now values) ≡ (2 ^ j + 2 ^ j) * count) ⌝ }
     ensures { λ _. ⌜ Unlayered (f .modulus) j count (λ (r : ℕ). getD (now (lanes .entry)) (j * count + r) 0 ⊕ c) (now (values .entry)) (now (values .exit)) ⌝ }
 {
@@ -64,8 +66,8 @@ fn inverse_layer(f: Field, lanes: &[u16], count: usize, j: usize, c: u16, values
 }
 
 // The images x of a shift, with those of basis element i added.
-pub fn shifted(images: &[u16; 192], i: usize, x: [u16; 16]) -> [u16; 16]
-    requires { ⌜ i < 12 ⌝ }
+pub fn shifted(images: &[u16; CELLS], i: usize, x: [u16; 16]) -> [u16; 16]
+    requires { ⌜ i < maxDim ⌝ }
     ensures { λ r. ⌜ Shifted (now (images .entry)) i x r ⌝ }
 {
     let mut out = x;
@@ -80,7 +82,7 @@ pub fn shifted(images: &[u16; 192], i: usize, x: [u16; 16]) -> [u16; 16]
 // Coefficients to values, 2^m lists of count symbols.
 pub fn evaluate(
     f: Field,
-    images: &[u16; 192],
+    images: &[u16; CELLS],
     lanes: &[u16],
     count: usize,
     m: usize,
@@ -104,7 +106,7 @@ pub fn evaluate(
 // Values to coefficients, 2^m lists of count symbols.
 pub fn interpolate(
     f: Field,
-    images: &[u16; 192],
+    images: &[u16; CELLS],
     lanes: &[u16],
     count: usize,
     m: usize,

@@ -1,10 +1,12 @@
 // The images of the elements of a span, as lanes of a transform.
+use space::CELLS;
 ghost use mathlib.Core.Path.{_≡_};
 ghost use Prim.Native.Nat.{ℕ, _+_, _*_, _<_, _≤_, _^_};
 ghost use lib.ListN.{length, getD};
 ghost use Rattle.lists.specs.Filled.{Filled};
 ghost use Rattle.field.specs.Binary.{_⊕_};
 ghost use Rattle.transform.specs.Spans.{Zeros, SpanList, SpanLanes};
+ghost use Rattle.space.specs.Sizes.{maxDim};
 
 // Lanes of the element 0.
 pub fn no_lanes() -> [u16; 384]
@@ -26,8 +28,8 @@ fn add_element(x: u16, n: usize, list: &mut [u16])
 }
 
 // The images of number j of the 2^c elements.
-fn span_list(images: &[u16; 192], from: usize, c: usize, j: usize, list: &mut [u16])
-    requires { ⌜ (from + c ≤ 12) × (j < 16) × (length (now list) ≡ 2 ^ c) ⌝ }
+fn span_list(images: &[u16; CELLS], from: usize, c: usize, j: usize, list: &mut [u16])
+    requires { ⌜ (from + c ≤ maxDim) × (j < 16) × (length (now list) ≡ 2 ^ c) ⌝ }
     ensures { λ _. ⌜ SpanList (now (images .entry)) from c j (2 ^ c) (now (list .exit)) ⌝ }
 {
     list[0] = 0;
@@ -40,8 +42,8 @@ fn span_list(images: &[u16; 192], from: usize, c: usize, j: usize, list: &mut [u
 
 // The lanes of the span of c basis elements, from number `from` on: m lists of 2^c, list j with the
 // images of number j.
-pub fn span_lanes(images: &[u16; 192], from: usize, c: usize, m: usize) -> [u16; 384]
-    requires { ⌜ (m * 2 ^ c ≤ 384) × (from + c ≤ 12) × (m ≤ 16) ⌝ }
+pub fn span_lanes(images: &[u16; CELLS], from: usize, c: usize, m: usize) -> [u16; 384]
+    requires { ⌜ (m * 2 ^ c ≤ 384) × (from + c ≤ maxDim) × (m ≤ 16) ⌝ }
     ensures { λ r. ⌜ SpanLanes (now (images .entry)) from c m r ⌝ }
 {
     let mut lanes = no_lanes();

@@ -9,7 +9,7 @@ ghost use mathlib.Core.Path.{_≡_};
 ghost use Prim.Native.Nat.{_+_, _-_, _*_, _%_, _^_, _<_, _≤_};
 ghost use lib.ListN.{length, take, drop, getD};
 ghost use Rattle.lists.specs.Tables.{part};
-ghost use Rattle.space.specs.Setting.{maxDim};
+ghost use Rattle.space.specs.Sizes.{maxDim};
 ghost use Rattle.proximity.specs.Dim.{half, rowDim, colDim, S};
 ghost use Rattle.proximity.specs.Proof.{row};
 ghost use Rattle.proximity.specs.ByLine.{InRange, lineProof};

@@ -5,7 +5,7 @@ use transform::slices;
 ghost use mathlib.Core.Path.{_≡_};
 ghost use Prim.Native.Nat.{_+_, _-_, _^_, _<_, _≤_};
 ghost use lib.ListN.{length, take};
-ghost use Rattle.space.specs.Setting.{maxDim};
+ghost use Rattle.space.specs.Sizes.{maxDim};
 ghost use Rattle.transform.specs.Slices.{Transposed};
 ghost use Rattle.proximity.specs.Dim.{half, colDim, S};
 ghost use Rattle.proximity.specs.Proof.{column};

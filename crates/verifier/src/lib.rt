@@ -1,12 +1,12 @@
 // The checker for one coin.
-pub mod blocks;
-pub mod gather;
+mod blocks;
+mod gather;
 pub mod parts;
 
 use proximity::tables;
 ghost use Prim.Native.Nat.{_≤_};
 ghost use Rattle.lists.specs.Answers.{Answers};
-ghost use Rattle.space.specs.Setting.{maxDim};
+ghost use Rattle.space.specs.Sizes.{maxDim};
 ghost use Rattle.verifier.specs.Checker.{deliveryChecks, Told};
 
 // The verdict with the number of symbols read, or the number of a refusal.

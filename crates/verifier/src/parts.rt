@@ -7,6 +7,7 @@ use field::modulus;
 use proximity::Line;
 use proximity::lines;
 use proximity::spaces;
+use space::CELLS;
 ghost use mathlib.Core.Path.{_≡_};
 ghost use mathlib.Core.List.{List};
 ghost use Prim.Native.Nat.{ℕ, _-_, _/_, _^_, _≤_};
@@ -21,7 +22,7 @@ ghost use Rattle.verifier.specs.OnCoin.{By};
 ghost use Rattle.verifier.specs.Parts.{InSpace, Lent, joined, noSymbols};
 
 // The verdict on a short word that is given in lanes: all its symbols are read.
-fn short_verdict(f: Field, k: usize, images: &[u16; 192], read: [u16; 64]) -> Verdict
+fn short_verdict(f: Field, k: usize, images: &[u16; CELLS], read: [u16; 64]) -> Verdict
     requires { ⌜ InSpace f k (now images) × (k ≤ 6) × (length read ≡ 64) ⌝ }
     ensures { λ v. ⌜ ((b w : List ℕ) → Basis (symbols (f .modulus)) k b → Images (symbols (f .modulus)) b (now (images .entry)) → length w ≡ 2 ^ k → Transposed 8 (2 ^ (k - 3)) w noSymbols read → By (symbols (f .modulus)) w (2 ^ k) (Codeword (symbols (f .modulus)) k b w) v) ⌝ }
 {
@@ -55,7 +56,7 @@ fn other_blocks(word: &[u16]) -> &[u16]
 pub fn check_parts<'a>(
     f: Field,
     k: usize,
-    images: &[u16; 192],
+    images: &[u16; CELLS],
     near: &'a [u16],
     far: &'a [u16],
     slot: usize,
@@ -106,7 +107,7 @@ pub fn check_parts<'a>(
 pub fn check_word<'a>(
     f: Field,
     k: usize,
-    images: &[u16; 192],
+    images: &[u16; CELLS],
     word: &'a [u16],
     proof: &'a [u16],
     coin: u64,

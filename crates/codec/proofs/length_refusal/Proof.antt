@@ -8,6 +8,8 @@ use Rattle.codec.specs.Lengths.{six-first, six-second, seven, lengths-ri
 use Rattle.codec.proofs.CallLaws.{eighth-is}
 use Rattle.codec.proofs.length_refusal.Statement.{statement}
 use Rattle.codec.proofs.length_refusal.Tie as tie
+use Rattle.space.specs.Sizes.{maxDim}
+use Rattle.codec.specs.Scratch.{scratchFor}
 
 module _ (c : tie.After-power) where
   abbrev start : tie.Start
@@ -25,28 +27,28 @@ power-requires c κs = search needs
 returns : tie.Need-returns
 returns c =
     let a = start (c .before) .args in
-    six-first (a .coefficients) (2 ^ (a .k - 3)) (a .word) (2 ^ a .k) (a .scratch) (4 * 2 ^ a .k) (λ e. c .if1 .taken (e ∙ sym (eighth (c .before))))
+    six-first (a .coefficients) (2 ^ (a .k - 3)) (a .word) (2 ^ a .k) (a .scratch) (scratchFor (a .k)) (λ e. c .if1 .taken (e ∙ sym (eighth (c .before))))
 
 returns-2 : tie.Need-returns-2
 returns-2 c =
     let at = c .before .before in
     let a = start at .args in
-    six-second (a .coefficients) (2 ^ (a .k - 3)) (a .word) (2 ^ a .k) (a .scratch) (4 * 2 ^ a .k) (λ e. c .if2 .taken (e ∙ sym (at .power .ensures)))
+    six-second (a .coefficients) (2 ^ (a .k - 3)) (a .word) (2 ^ a .k) (a .scratch) (scratchFor (a .k)) (λ e. c .if2 .taken (e ∙ sym (at .power .ensures)))
 
 mul-if3 : tie.Need-mul-if3
-mul-if3 c = omega (arith, c .before .before .power .ensures, pow-mono {i = k (c .before .before)} {j = 12} (start (c .before .before) .pre .1))
+mul-if3 c = omega (arith, c .before .before .power .ensures, pow-mono {i = k (c .before .before)} {j = maxDim} (start (c .before .before) .pre .1))
 
 returns-3 : tie.Need-returns-3
 returns-3 c =
     let at = c .before .before .before in
     let a = start at .args in
-    seven (a .coefficients) (2 ^ (a .k - 3)) (a .word) (2 ^ a .k) (a .scratch) (4 * 2 ^ a .k) (c .before .before .if1 .left ∙ eighth at) (c .before .if2 .left ∙ at .power .ensures) (omega (arith, c .if3 .taken, at .power .ensures))
+    seven (a .coefficients) (2 ^ (a .k - 3)) (a .word) (2 ^ a .k) (a .scratch) (scratchFor (a .k)) (c .before .before .if1 .left ∙ eighth at) (c .before .if2 .left ∙ at .power .ensures) (omega (arith, c .if3 .taken, at .power .ensures))
 
 returns-4 : tie.Need-returns-4
 returns-4 c =
     let at = c .before .before .before in
     let a = start at .args in
-    lengths-right (a .coefficients) (2 ^ (a .k - 3)) (a .word) (2 ^ a .k) (a .scratch) (4 * 2 ^ a .k) (c .before .before .if1 .left ∙ eighth at) (c .before .if2 .left ∙ at .power .ensures) (omega (arith, c .if3 .left, at .power .ensures))
+    lengths-right (a .coefficients) (2 ^ (a .k - 3)) (a .word) (2 ^ a .k) (a .scratch) (scratchFor (a .k)) (c .before .before .if1 .left ∙ eighth at) (c .before .if2 .left ∙ at .power .ensures) (omega (arith, c .if3 .left, at .power .ensures))
 
 pub length-refusal-spec : {M : Type 1} → statement M
 length-refusal-spec =

@@ -9,6 +9,8 @@ use Rattle.codec.specs.Lengths.{six-first, six-second, seven, lengths-right}
 use borrow.Author.Needs.{needs}
 use Rattle.prover.proofs.length_refusal.Statement.{statement}
 use Rattle.prover.proofs.length_refusal.Tie as tie
+use Rattle.space.specs.Sizes.{maxDim}
+use Rattle.codec.specs.Scratch.{scratchFor}
 
 shl-n : tie.Need-shl-n
 shl-n c = search needs
@@ -20,7 +22,7 @@ returns : tie.Need-returns
 returns c =
     let s = c .before in
     let a = s .args in
-    six-first (a .word) (2 ^ a .k) (a .proof) (S (a .k)) (a .scratch) (4 * 2 ^ a .k) (λ e. c .if1 .taken (e ∙ sym (n-is s)))
+    six-first (a .word) (2 ^ a .k) (a .proof) (S (a .k)) (a .scratch) (scratchFor (a .k)) (λ e. c .if1 .taken (e ∙ sym (n-is s)))
 
 proof-length-requires : tie.Need-proof-length-requires
 proof-length-requires c κs = search needs
@@ -29,26 +31,26 @@ returns-2 : tie.Need-returns-2
 returns-2 c =
     let s = c .before .before .before in
     let a = s .args in
-    six-second (a .word) (2 ^ a .k) (a .proof) (S (a .k)) (a .scratch) (4 * 2 ^ a .k) (λ e. c .if2 .taken (e ∙ sym (c .before .proof-length .ensures)))
+    six-second (a .word) (2 ^ a .k) (a .proof) (S (a .k)) (a .scratch) (scratchFor (a .k)) (λ e. c .if2 .taken (e ∙ sym (c .before .proof-length .ensures)))
 
 mul-if3 : tie.Need-mul-if3
 mul-if3 c =
     let s = c .before .before .before in
-    omega (arith, n-is s, pow-mono {i = s .args .k} {j = 12} (s .pre .1))
+    omega (arith, n-is s, pow-mono {i = s .args .k} {j = maxDim} (s .pre .1))
 
 returns-3 : tie.Need-returns-3
 returns-3 c =
     let else2 = c .before in
     let s = else2 .before .before .before in
     let a = s .args in
-    seven (a .word) (2 ^ a .k) (a .proof) (S (a .k)) (a .scratch) (4 * 2 ^ a .k) (else2 .before .before .if1 .left ∙ n-is s) (else2 .if2 .left ∙ else2 .before .proof-length .ensures) (omega (arith, c .if3 .taken, n-is s))
+    seven (a .word) (2 ^ a .k) (a .proof) (S (a .k)) (a .scratch) (scratchFor (a .k)) (else2 .before .before .if1 .left ∙ n-is s) (else2 .if2 .left ∙ else2 .before .proof-length .ensures) (omega (arith, c .if3 .taken, n-is s))
 
 returns-4 : tie.Need-returns-4
 returns-4 c =
     let else2 = c .before in
     let s = else2 .before .before .before in
     let a = s .args in
-    lengths-right (a .word) (2 ^ a .k) (a .proof) (S (a .k)) (a .scratch) (4 * 2 ^ a .k) (else2 .before .before .if1 .left ∙ n-is s) (else2 .if2 .left ∙ else2 .before .proof-length .ensures) (omega (arith, c .if3 .left, n-is s))
+    lengths-right (a .word) (2 ^ a .k) (a .proof) (S (a .k)) (a .scratch) (scratchFor (a .k)) (else2 .before .before .if1 .left ∙ n-is s) (else2 .if2 .left ∙ else2 .before .proof-length .ensures) (omega (arith, c .if3 .left, n-is s))
 
 pub length-refusal-spec : {M : Type 1} → statement M
 length-refusal-spec =

@@ -17,6 +17,7 @@ use Rattle.prover.specs.Calls.{lengthChecks, Proven}
 use Rattle.prover.proofs.CallLaws.{early-within, early-numbered, in-setting, prove-done, prove-refused}
 use Rattle.prover.proofs.prove.Statement.{statement}
 use Rattle.prover.proofs.prove.Tie as tie
+use Rattle.codec.specs.Scratch.{scratchFor}
 
 -- ---- checks 1 to 7
 module _ (c : tie.After-early-refusal) where
@@ -82,7 +83,7 @@ prove-with-requires : tie.Need-prove-with-requires
 prove-with-requires c κs =
     let then = c .before .before in
     let here = at then in
-    in-setting (word here) (proof here) (scratch here) (set then) (lengths-passed (length (word here)) (2 ^ length (bs here)) (length (proof here)) (S (length (bs here))) (length (scratch here)) (4 * 2 ^ length (bs here)) (right-lengths then))
+    in-setting (word here) (proof here) (scratch here) (set then) (lengths-passed (length (word here)) (2 ^ length (bs here)) (length (proof here)) (S (length (bs here))) (length (scratch here)) (scratchFor (length (bs here))) (right-lengths then))
 
 finish-requires : tie.Need-finish-requires
 finish-requires c κs = search needs

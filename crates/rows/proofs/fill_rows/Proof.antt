@@ -10,6 +10,7 @@ use Rattle.rows.specs.Rows.{Coefficients, LastLanes, Stored}
 use Rattle.rows.proofs.Passes.{power, stored-none, stored-next}
 use Rattle.rows.proofs.fill_rows.Statement.{statement}
 use Rattle.rows.proofs.fill_rows.Tie as tie
+use Rattle.space.specs.Sizes.{maxDim}
 
 abbrev Inv-loop : tie.InvT-loop
 Inv-loop f images k word proof₀ work₀ n last j₀ proof work j =
@@ -124,7 +125,7 @@ module _ (c : tie.After-evaluate-rows Inv-loop μ-loop) where
 mul-store-rows : tie.Need-mul-store-rows Inv-loop μ-loop
 mul-store-rows c =
     let s = begin (head (c .before .before)) in
-    let few : 2 ^ s .args .k ≤ 2 ^ 12 = pow-mono {j = 12} (s .pre .0 .0 .high) in
+    let few : 2 ^ s .args .k ≤ 2 ^ maxDim = pow-mono {j = maxDim} (s .pre .0 .0 .high) in
     omega (arith, n-is s)
 
 sub-store-rows : tie.Need-sub-store-rows Inv-loop μ-loop

@@ -7,6 +7,7 @@ use Rattle.lists.specs.Decides.{decides-true, decides-false}
 use borrow.Author.Needs.{needs}
 use Rattle.space.proofs.basis_refusal.Statement.{statement}
 use Rattle.space.proofs.basis_refusal.Tie as tie
+use Rattle.space.specs.Sizes.{maxDim}
 
 returns : tie.Need-returns
 returns c = inl (inl (c .if1 .taken), refl)
@@ -17,7 +18,7 @@ returns-2 c = inl (inr (c .if2 .taken), refl)
 all-symbols-requires : tie.Need-all-symbols-requires
 all-symbols-requires c κs = search needs
 
-within : {n : ℕ} → 3 ≤ n → n ≤ 12 → (n < 3) ⊎ (12 < n) → ⊥
+within : {n : ℕ} → 3 ≤ n → n ≤ maxDim → (n < 3) ⊎ (maxDim < n) → ⊥
 within {n} l h (inl a) = omega arith
 within {n} l h (inr a) = omega arith
 

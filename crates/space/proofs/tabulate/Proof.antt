@@ -13,11 +13,12 @@ use Rattle.space.specs.Setting.{noTables}
 use Rattle.space.proofs.Progress.{SoFar, so-far-start, so-far-next, tabled-none, tabled-all, steps-below, inverses-below, step-right}
 use Rattle.space.proofs.tabulate.Statement.{statement}
 use Rattle.space.proofs.tabulate.Tie as tie
+use Rattle.space.specs.Sizes.{maxDim}
 
 abbrev Inv-loop : tie.InvT-loop
 Inv-loop f basis none images₀ steps₀ inverses₀ i₀ images steps inverses i =
     (none ≡ noTables) × (i ≤ length basis)
-    × ((irr : Irreducible (f .modulus)) (few : length basis ≤ 12) (sb : Below (2 ^ degree (f .modulus)) basis) → SoFar (f .modulus) irr basis few sb i images steps inverses)
+    × ((irr : Irreducible (f .modulus)) (few : length basis ≤ maxDim) (sb : Below (2 ^ degree (f .modulus)) basis) → SoFar (f .modulus) irr basis few sb i images steps inverses)
 
 abbrev μ-loop : tie.MeasureT-loop
 μ-loop f basis none images₀ steps₀ inverses₀ i₀ images steps inverses i = length basis - i
@@ -51,7 +52,7 @@ module _ (c : tie.At-loop Inv-loop μ-loop) where
   abbrev irr : Irreducible m
   irr = start .pre .1
 
-  abbrev few : length bs ≤ 12
+  abbrev few : length bs ≤ maxDim
   few = start .pre .2
 
   abbrev sb : Below (2 ^ degree m) bs

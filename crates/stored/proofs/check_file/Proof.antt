@@ -15,6 +15,7 @@ use Rattle.stored.specs.declared.Reading.{Reading}
 use borrow.Author.Needs.{needs}
 use Rattle.stored.proofs.check_file.Statement.{statement}
 use Rattle.stored.proofs.check_file.Tie as tie
+use Rattle.space.specs.Sizes.{maxDim}
 
 read-requires : tie.Need-read-requires
 read-requires c κs = search needs
@@ -41,7 +42,7 @@ module _ (c : tie.Else1) where
   dimension : found .setting .space .k ≡ dimIn bytes
   dimension = read-dimension bytes found (got .read .ensures) (c .if1 .left)
 
-  few : found .setting .space .k ≤ 12
+  few : found .setting .space .k ≤ maxDim
   few = read-laid bytes found (got .read .ensures) (c .if1 .left) .few
 
 coin-bits-requires : tie.Need-coin-bits-requires

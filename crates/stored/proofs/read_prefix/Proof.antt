@@ -7,7 +7,8 @@ use native.Mathlib.Omega.{arith}
 use Rattle.lists.specs.Answers.{Answers, Passes, Refuses, answers-after, refused-first}
 use Rattle.field.specs.Binary.{degree}
 use Rattle.space.specs.Ready.{Ready}
-use Rattle.space.specs.Setting.{maxDim, SettledBy, settingOf}
+use Rattle.space.specs.Setting.{SettledBy, settingOf}
+use Rattle.space.specs.Sizes.{maxDim}
 use Rattle.space.specs.declared.Checked.{Checked}
 use Rattle.space.specs.declared.Setting.{Setting}
 use Rattle.proximity.specs.LineLaws.{S-small}

@@ -16,6 +16,7 @@ use Rattle.stored.specs.Written.{length-setting-record, length-symbol-re
 use borrow.Author.Needs.{needs}
 use Rattle.stored.proofs.write.Statement.{statement}
 use Rattle.stored.proofs.write.Tie as tie
+use Rattle.space.specs.Sizes.{maxDim}
 
 refusal-requires : tie.Need-refusal-requires
 refusal-requires c κs = search needs
@@ -52,11 +53,11 @@ module _ (c : tie.Else1) where
   room : length old ≡ fileEnd (length bs)
   room = writer-passed m bs w π (length old) passes .1
 
-  few : length bs ≤ 12
+  few : length bs ≤ maxDim
   few = given .setting .high
 
   words : (length w ≡ 2 ^ length bs) × (2 ^ length bs ≤ 4096)
-  words = (given .word, pow-mono {i = length bs} {j = 12} few)
+  words = (given .word, pow-mono {i = length bs} {j = maxDim} few)
 
   proofs : length π < 67551233
   proofs = omega (arith, given .proof, S-small (length bs) (omega (arith, few)))

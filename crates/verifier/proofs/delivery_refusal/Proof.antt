@@ -12,12 +12,13 @@ use Rattle.verifier.proofs.Laws.{one-shifted}
 use borrow.Author.Needs.{needs}
 use Rattle.verifier.proofs.delivery_refusal.Statement.{statement}
 use Rattle.verifier.proofs.delivery_refusal.Tie as tie
+use Rattle.space.specs.Sizes.{maxDim}
 
 shl-if1 : tie.Need-shl-if1
 shl-if1 c = search needs
 
 -- the tests that were passed
-module _ (k word proof coin : ℕ) (few : k ≤ 12) where
+module _ (k word proof coin : ℕ) (few : k ≤ maxDim) where
   other-word : (word ≡ 1 * 2 ^ k % 18446744073709551616 → ⊥) → word ≡ 2 ^ k → ⊥
   other-word f e = f (e ∙ sym (one-shifted k (omega arith)))
 

@@ -30,8 +30,8 @@ module _ (c : tie.Start) where
   size-is : size ≡ 2 ^ (k - 3)
   size-is = c .pre .1
 
-  room : 4 * (size * 8) ≤ length scratch
-  room = subst (λ (i : ℕ). 4 * i ≤ length scratch) (eight k (c .pre .0 .low) ∙ ap (λ (i : ℕ). i * 8) (sym size-is)) (c .pre .2)
+  room : size * 8 ≤ length scratch
+  room = omega (arith, eight k (c .pre .0 .low), size-is, c .pre .2)
 
 -- ---- once the coefficients of block 0 are read
 module _ (c : tie.After-from-lane) where

@@ -25,6 +25,7 @@ use Rattle.coins.specs.Totals.{Rejects, mostOf}
 use Rattle.coins.proofs.FileSymbols.{short}
 use Rattle.coins.proofs.tally.totals.Statement.{statement}
 use Rattle.coins.proofs.tally.totals.Tie as tie
+use Rattle.space.specs.Sizes.{maxDim}
 
 abbrev Inv-loop : tie.InvT-loop
 Inv-loop file word off field images k s proof coins rejects₀ most₀ coin₀ rejects most coin = (coin ≤ coins) × Counted (Rejects file) coin rejects × (most ≡ mostOf coin (readsOf (dimIn file)))
@@ -46,7 +47,7 @@ module _ (c : tie.Start Inv-loop μ-loop) where
   abbrev none : found .refusal ≡ 0
   none = c .pre .0 .1
 
-  few : found .setting .space .k ≤ 12
+  few : found .setting .space .k ≤ maxDim
   few = read-laid bytes found told none .few
 
 proof-length-requires : tie.Need-proof-length-requires Inv-loop μ-loop

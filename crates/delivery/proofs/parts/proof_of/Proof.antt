@@ -13,6 +13,7 @@ use Rattle.delivery.proofs.Laws.{length-back, front-back}
 use borrow.Author.Needs.{needs}
 use Rattle.delivery.proofs.parts.proof_of.Statement.{statement}
 use Rattle.delivery.proofs.parts.proof_of.Tie as tie
+use Rattle.codec.specs.Scratch.{scratchFor}
 
 proof-length-requires : tie.Need-proof-length-requires
 proof-length-requires c κs = search needs
@@ -40,7 +41,7 @@ module _ (c : tie.After-no-scratch) where
   part : length (take n zeros) ≡ n
   part = length-take-le n zeros fits
 
-  room : 4 * 2 ^ length (start .args .basis .now) ≤ length (c .no-scratch .result)
+  room : scratchFor (length (start .args .basis .now)) ≤ length (c .no-scratch .result)
   room = omega (arith, pow-mono {i = length (start .args .basis .now)} {j = 8} (start .pre .0 .few), c .no-scratch .ensures)
 
 array-borrow-prefix-proof : tie.Need-array-borrow-prefix-proof

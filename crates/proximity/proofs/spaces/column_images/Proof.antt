@@ -8,18 +8,19 @@ use Rattle.proximity.specs.Dim.{half}
 use Rattle.proximity.proofs.Rows.{column-filled}
 use Rattle.proximity.proofs.spaces.column_images.Statement.{statement}
 use Rattle.proximity.proofs.spaces.column_images.Tie as tie
+use Rattle.space.specs.Sizes.{cells}
 
 abbrev Inv-loop : tie.InvT-loop
-Inv-loop images k shift t₀ p₀ t p = (shift ≡ 17 * half k) × (p ≤ 192) × Upto 192 p (λ p. getD images (p + 17 * half k) 0) t
+Inv-loop images k shift t₀ p₀ t p = (shift ≡ 17 * half k) × (p ≤ cells) × Upto cells p (λ p. getD images (p + 17 * half k) 0) t
 
 abbrev μ-loop : tie.MeasureT-loop
-μ-loop images k shift t₀ p₀ t p = 192 - p
+μ-loop images k shift t₀ p₀ t p = cells - p
 
 mul-shift : tie.Need-mul-shift Inv-loop μ-loop
 mul-shift c = omega arith
 
 loop-holds : tie.Need-loop-holds Inv-loop μ-loop
-loop-holds c = (refl, omega arith, upto-none 192 (λ p. getD (c .args .images .now) (p + 17 * half (c .args .k)) 0))
+loop-holds c = (refl, omega arith, upto-none cells (λ p. getD (c .args .images .now) (p + 17 * half (c .args .k)) 0))
 
 add-loop : tie.Need-add-loop Inv-loop μ-loop
 add-loop c = omega arith

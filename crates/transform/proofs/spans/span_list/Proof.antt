@@ -10,6 +10,7 @@ use Rattle.transform.proofs.Layers.{power}
 use Rattle.transform.proofs.SpanLists.{span-none, span-next}
 use Rattle.transform.proofs.spans.span_list.Statement.{statement}
 use Rattle.transform.proofs.spans.span_list.Tie as tie
+use Rattle.space.specs.Sizes.{maxDim}
 
 abbrev Inv-loop : tie.InvT-loop
 Inv-loop images from c j list₀ i₀ list i = (i ≤ c) × (length list ≡ 2 ^ c) × SpanList images from c j (2 ^ i) list
@@ -48,7 +49,7 @@ add-element-requires : tie.Need-add-element-requires Inv-loop μ-loop
 add-element-requires c κs =
     let here = c .before .before .before in
     let i = here .loop .i in
-    let few : i ≤ 12 = omega (arith, here .before .before .pre .0) in
+    let few : i ≤ maxDim = omega (arith, here .before .before .pre .0) in
     omega (arith, power i few, next-pow i, pow-mono {i = i + 1} {j = here .before .before .args .c} (omega arith), here .loop .inv .1)
 
 add-i : tie.Need-add-i Inv-loop μ-loop
@@ -62,7 +63,7 @@ loop-again c =
     let here = c .before .before .before .before .before .before in
     let a = here .before .before .args in
     let i = here .loop .i in
-    let few : i ≤ 12 = omega (arith, here .before .before .pre .0) in
+    let few : i ≤ maxDim = omega (arith, here .before .before .pre .0) in
     let more : i < a .c = omega arith in (
       omega arith,
       c .before .before .add-element .ensures .kept ∙ here .loop .inv .1,

@@ -13,6 +13,7 @@ use Rattle.verifier.proofs.Laws.{aligned}
 use borrow.Author.Needs.{needs}
 use Rattle.verifier.proofs.blocks.row_near.Statement.{statement}
 use Rattle.verifier.proofs.blocks.row_near.Tie as tie
+use Rattle.space.specs.Sizes.{maxDim}
 
 block-size-requires : tie.Need-block-size-requires
 block-size-requires c κs = search needs
@@ -40,8 +41,8 @@ module _ (c : tie.After-block-size) where
   last : r * 2 ^ half k + 2 ^ half k ≤ 2 ^ k
   last = omega (arith, part-fits (2 ^ half k) (start .pre .4), pow-rows k)
 
-  small : 2 ^ k ≤ 2 ^ 12
-  small = pow-mono {j = 12} (start .pre .3)
+  small : 2 ^ k ≤ 2 ^ maxDim
+  small = pow-mono {j = maxDim} (start .pre .3)
 
   rows-in-blocks : 2 ^ (k - 3) ≡ 2 ^ (k - 3 - half k) * 2 ^ half k
   rows-in-blocks = let e : k - 3 ≡ k - 3 - half k + half k = omega (arith, start .pre .2) in ap (λ (t : ℕ). 2 ^ t) e ∙ pow-add 2 (k - 3 - half k) (half k)
