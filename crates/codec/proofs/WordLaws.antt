@@ -7,6 +7,7 @@ use native.Mathlib.Nat.{mul-comm}
 use native.Mathlib.Omega.{arith}
 use lib.ListN.{length, getD, List·getD-append}
 use lib.Seq.{ext-getD}
+use Rattle.space.specs.Sizes.{maxDim}
 use Rattle.lists.specs.All.{Below}
 use Rattle.lists.specs.Decides.{decides-true, decides-false}
 use Rattle.lists.specs.Lanes.{lane-ext, lane-each, place-fits, lane, getD-lane, length-lane}
@@ -35,7 +36,7 @@ use Rattle.codec.proofs.Spreading.{length-spread, spread-each, spread-l
 -- ---- the setting
 
 module _ {s : Setting} (u : Usable s) where
-  pub few-coefficients : s .space .k - 3 ≤ 9
+  pub few-coefficients : s .space .k - 3 ≤ maxDim - 3
   few-coefficients = omega (arith, u .high)
 
   pub stepped : Stepped (s .field) (s .space .k - 3) (s .steps)

@@ -55,7 +55,7 @@ abbrev pub Encoded : ℕ → List ℕ → List ℕ → List ℕ → List ℕ →
 Encoded m bs coefficients old new scratch left =
     Told (encodeChecks m bs coefficients (length old) (length scratch)) (λ w. w ≡ wordOf (symbols m) (length bs) bs coefficients) old new scratch left
 
--- p is the coefficients of the codeword: there are n/8, and they have no other word
+-- p is the coefficients of the codeword: there are n/8, and the codeword is theirs. No others have it: `decode-unique`
 pub record CoefficientsOf (m : ℕ) (bs word p : List ℕ) : Type 0 where
   pub count : length p ≡ 2 ^ (length bs - 3)
   pub elements : All (symbols m .Sym) p

@@ -1,11 +1,12 @@
 -- From products of W_j to products of the normalised W_j and back, coefficient by coefficient. Assumes nothing.
 use mathlib.Core.Path.{_≡_, refl, sym, ap, ap₂, _∙_}
 use mathlib.Core.List.{List, [], _∷_, _++_, zipWith}
-use Prim.Native.Nat.{ℕ, zero, suc, _+_, _^_, _≤_, _<_}
+use Prim.Native.Nat.{ℕ, zero, suc, _+_, _^_, _≤_, _<_, _-_}
 use native.Mathlib.Nat.{two-pow-succ}
 use native.Mathlib.Omega.{arith}
 use lib.ListN.{length, getD, take, drop, length-append, length-drop}
 use lib.Seq.{length-take-le, take-at, drop-at}
+use Rattle.space.specs.Sizes.{maxDim}
 use Rattle.lists.specs.All.{All, All-take, All-drop}
 use Rattle.lists.specs.Overwrite.{length-zipWith}
 use Rattle.field.specs.Laws.{Ops, IsField, ring, ⊗-0, ⊗-1}
@@ -141,7 +142,7 @@ module _ {K : Ops} (F : IsField K) where
         ∙ sym (evalX-by bs m d x)
 
 -- W_j(x) by the rows of the table
-pub value-row : {q : ℕ} (F : IsField (symbols q)) (bs steps t : List ℕ) (m : ℕ) → m ≤ 9 → m ≤ length bs → ((j : ℕ) → j < m → getD steps j 0 ≡ step (symbols q) bs j)
+pub value-row : {q : ℕ} (F : IsField (symbols q)) (bs steps t : List ℕ) (m : ℕ) → m ≤ maxDim - 3 → m ≤ length bs → ((j : ℕ) → j < m → getD steps j 0 ≡ step (symbols q) bs j)
     → Sparse q steps m t → (j x : ℕ) → j < m → symbols q .Sym x → valueBy q t j x ≡ W (symbols q) bs j x
 value-row {q} F bs steps t m few hm e s j x h sx =
     linear-same F (rowOf t j) (coefficient (symbols q) (λ i. getD steps i 0) j) (suc j) x (λ i l. s .right j i h (omega arith))

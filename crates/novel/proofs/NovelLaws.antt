@@ -2,11 +2,12 @@
 use mathlib.Core.Path.{_≡_, refl, sym, ap, ap₂, _∙_, subst}
 use mathlib.Core.Logic.{inl}
 use mathlib.Core.List.{List, [], _∷_, _++_, zipWith}
-use Prim.Native.Nat.{ℕ, _+_, _^_, _≤_, _<_}
+use Prim.Native.Nat.{ℕ, _+_, _^_, _≤_, _<_, _-_}
 use native.Mathlib.Omega.{arith}
 use lib.ListN.{length, getD, take, drop}
 use lib.Pow.{pow-mono}
 use lib.Seq.{take-at, drop-at, length-take-le}
+use Rattle.space.specs.Sizes.{maxDim, maxCoefficients}
 use Rattle.lists.specs.All.{All, Below, IsZero, All-take}
 use Rattle.lists.specs.Stretch.{Apart, stretch, length-stretch}
 use Rattle.field.specs.Binary.{_⊕_, degree, product, Irreducible}
@@ -51,8 +52,8 @@ module _ {f : Field} {m : ℕ} {steps : List ℕ} (s : Stepped f m steps) where
             ∙ evalBy-same F (λ j. valueBy q t j x) (λ j. W (symbols q) bs j x) m products (λ j h. value-row F bs steps t m (s .few) (b .enough) (b .right) p j x h sx);
       }
 
-  pub size-fits : 2 ^ m ≤ 512
-  size-fits = pow-mono {i = m} {j = 9} (s .few)
+  pub size-fits : 2 ^ m ≤ maxCoefficients
+  size-fits = pow-mono {i = m} {j = maxDim - 3} (s .few)
 
 -- ---- products with the scales
 

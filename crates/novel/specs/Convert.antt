@@ -1,8 +1,9 @@
 -- Coefficients of powers of x, and those of the products of W_j over the one bits j of a coefficient's number.
 use mathlib.Core.Path.{_≡_}
 use mathlib.Core.List.{List}
-use Prim.Native.Nat.{ℕ, zero, suc, _+_, _*_, _/_, _^_, _≤_, _<_}
+use Prim.Native.Nat.{ℕ, zero, suc, _+_, _*_, _/_, _^_, _≤_, _<_, _-_}
 use lib.ListN.{length, getD, take, drop}
+use Rattle.space.specs.Sizes.{maxDim, maxCoefficients}
 use Rattle.lists.specs.All.{All, Below, IsZero}
 use Rattle.lists.specs.Stretch.{stretch}
 use Rattle.field.specs.Binary.{degree, Irreducible}
@@ -30,23 +31,23 @@ module _ (K : Ops) where
 
 -- row j of the table
 abbrev pub rowOf : List ℕ → ℕ → ℕ → ℕ
-rowOf table j i = getD table (12 * j + i) 0
+rowOf table j i = getD table (maxDim * j + i) 0
 
 -- W_j(x), from row j of the table
 abbrev pub valueBy : ℕ → List ℕ → ℕ → ℕ → ℕ
 valueBy q table j x = linear (symbols q) (rowOf table j) (suc j) x
 
--- 256 zeros at least
+-- zeros for half of the coefficients of the longest word
 pub record Zeros (none : List ℕ) : Type 0 where
   pub zero : All IsZero none
-  pub many : 256 ≤ length none
+  pub many : maxCoefficients / 2 ≤ length none
 
 -- what the change of basis for 2^m coefficients takes
 pub record Tabled (f : Field) (none table : List ℕ) (m : ℕ) : Type 0 where
   pub sized : Sized f
   pub irreducible : Irreducible (f .modulus)
   pub zeros : Zeros none
-  pub few : m ≤ 9
+  pub few : m ≤ maxDim - 3
   pub below : Below (2 ^ degree (f .modulus)) table
   pub lead : (j : ℕ) → j < m → rowOf table j j ≡ 1
 

@@ -1,8 +1,9 @@
 -- Coefficients of powers of x, and those over the novel basis, in a list whose first 2^m numbers are given and whose next 2^m are the answer.
 use mathlib.Core.Path.{_≡_}
 use mathlib.Core.List.{List, zipWith}
-use Prim.Native.Nat.{ℕ, _^_, _≤_, _<_}
+use Prim.Native.Nat.{ℕ, _^_, _≤_, _<_, _-_}
 use lib.ListN.{length, getD, take}
+use Rattle.space.specs.Sizes.{maxDim}
 use Rattle.lists.specs.All.{All, Below, IsZero}
 use Rattle.lists.specs.Stretch.{stretch}
 use Rattle.field.specs.Binary.{degree, product, Irreducible}
@@ -19,7 +20,7 @@ use Rattle.novel.specs.Scales.{scalesOf}
 pub record Stepped (f : Field) (m : ℕ) (steps : List ℕ) : Type 0 where
   pub sized : Sized f
   pub irreducible : Irreducible (f .modulus)
-  pub few : m ≤ 9
+  pub few : m ≤ maxDim - 3
   pub below : Below (2 ^ degree (f .modulus)) steps
 
 -- the steps are those of the basis, as far as 2^m coefficients need them

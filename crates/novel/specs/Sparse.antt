@@ -4,6 +4,7 @@ use mathlib.Core.List.{List}
 use Prim.Native.Nat.{ℕ, zero, suc, _+_, _*_, _^_, _≤_, _<_}
 use native.Mathlib.Omega.{arith}
 use lib.ListN.{length, getD, replicate}
+use Rattle.space.specs.Sizes.{maxDim}
 use Rattle.lists.specs.All.{Below}
 use Rattle.field.specs.Binary.{degree}
 use Rattle.field.specs.Laws.{Ops, IsField, ring}
@@ -34,13 +35,17 @@ module _ (K : Ops) where
   coefficient s (suc j) zero = s j ⊗ coefficient s j zero
   coefficient s (suc j) (suc i) = s j ⊗ coefficient s j (suc i) ⊕ coefficient s j i ⊗ coefficient s j i
 
-unfoldable pub zeroCells : List ℕ
-zeroCells = replicate 144 0
+-- a row of maxDim places for each subspace polynomial
+abbrev pub tableCells : ℕ
+tableCells = maxDim * maxDim
 
--- t has the coefficient of x^(2^i) in W_j at 12 j + i, j below count
+unfoldable pub zeroCells : List ℕ
+zeroCells = replicate tableCells 0
+
+-- t has the coefficient of x^(2^i) in W_j at maxDim j + i, j below count
 pub record Sparse (q : ℕ) (steps : List ℕ) (count : ℕ) (t : List ℕ) : Type 0 where
   pub below : Below (2 ^ degree q) t
-  pub right : (j i : ℕ) → j < count → i < 12 → getD t (12 * j + i) 0 ≡ coefficient (symbols q) (λ j. getD steps j 0) j i
+  pub right : (j i : ℕ) → j < count → i < maxDim → getD t (maxDim * j + i) 0 ≡ coefficient (symbols q) (λ j. getD steps j 0) j i
 
 module _ {K : Ops} (F : IsField K) (s : ℕ → ℕ) where
   infixl 60 _⊕_

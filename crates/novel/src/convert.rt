@@ -2,9 +2,12 @@
 // coefficient's number. W_j has the powers x^(2^i) alone, i at most j, so a product with it or a
 // division by it takes j additions of a multiple.
 use field::Field;
+use space::MAX;
+use space::MAX_COEFFICIENTS;
 ghost use mathlib.Core.Path.{_≡_};
-ghost use Prim.Native.Nat.{_+_, _/_, _^_, _≤_, _<_};
+ghost use Prim.Native.Nat.{_+_, _/_, _^_, _≤_, _<_, _-_};
 ghost use lib.ListN.{length};
+ghost use Rattle.space.specs.Sizes.{maxDim};
 ghost use Rattle.lists.specs.All.{Below};
 ghost use Rattle.field.specs.Binary.{degree, Irreducible};
 ghost use Rattle.field.specs.Products.{Sized};
@@ -12,49 +15,52 @@ ghost use Rattle.novel.specs.Sparse.{Sparse, zeroCells};
 ghost use Rattle.novel.specs.Convert.{Tabled, Zeros, Folded, Expanded, Monomials};
 ghost use Rattle.novel.specs.Scales.{Scales, zeroRoom};
 
-// 256 zeros.
-pub fn none() -> [u16; 256]
+// The table of the subspace polynomials: a row of MAX places for each.
+const TABLE: usize = MAX * MAX;
+
+// Zeros for half of the coefficients of the longest word.
+pub fn none() -> [u16; MAX_COEFFICIENTS / 2]
     ensures { λ r. ⌜ Zeros r ⌝ }
 {
-    [0u16; 256]
+    [0u16; MAX_COEFFICIENTS / 2]
 }
 
 // 2^j.
 pub fn power(j: usize) -> usize
-    requires { ⌜ j ≤ 12 ⌝ }
+    requires { ⌜ j ≤ maxDim ⌝ }
     ensures { λ r. ⌜ r ≡ 2 ^ j ⌝ }
 {
     1usize << j
 }
 
-fn cells() -> [u16; 144]
+fn cells() -> [u16; TABLE]
     ensures { λ r. ⌜ r ≡ zeroCells ⌝ }
 {
-    [0u16; 144]
+    [0u16; TABLE]
 }
 
-// At 12 * j + i the coefficient of x^(2^i) in W_j, j below count: W_0 = x, and W_(j+1) is the
+// At MAX * j + i the coefficient of x^(2^i) in W_j, j below count: W_0 = x, and W_(j+1) is the
 // square of W_j and the product of W_j with the step of number j.
-pub fn table(f: Field, steps: &[u16; 16], count: usize) -> [u16; 144]
-    requires { ⌜ Sized f × Irreducible (f .modulus) × (count ≤ 9) × Below (2 ^ degree (f .modulus)) (now steps) ⌝ }
+pub fn table(f: Field, steps: &[u16; 16], count: usize) -> [u16; TABLE]
+    requires { ⌜ Sized f × Irreducible (f .modulus) × (count ≤ maxDim - 3) × Below (2 ^ degree (f .modulus)) (now steps) ⌝ }
     ensures { λ r. ⌜ Sparse (f .modulus) (now (steps .entry)) count r ⌝ }
 {
     let mut t = cells();
     t[0] = 1;
-    t[12] = field::products::mul(f, steps[0], 1);
+    t[MAX] = field::products::mul(f, steps[0], 1);
     let mut p = 0;
-    while p + 13 < 12 * count {
+    while p + (MAX + 1) < MAX * count {
         let w = t[p];
-        let s = steps[(p + 1) / 12];
+        let s = steps[(p + 1) / MAX];
         let a = field::products::mul(f, s, t[p + 1]);
-        t[p + 13] = a ^ field::products::mul(f, w, w);
+        t[p + (MAX + 1)] = a ^ field::products::mul(f, w, w);
         p += 1;
     }
     t
 }
 
 // Adds (W_j - x^(2^j)) * x^at times the 2^j / 2 coefficients at `at + 2^j`.
-fn fold(f: Field, none: &[u16], table: &[u16; 144], j: usize, at: usize, values: &mut [u16])
+fn fold(f: Field, none: &[u16], table: &[u16; TABLE], j: usize, at: usize, values: &mut [u16])
     requires { ⌜ Tabled f (now none) (now table) (j + 1) × Below (2 ^ degree (f .modulus)) (now values) × (at + 2 ^ j + 2 ^ j / 2 ≤ length (now values)) ⌝ }
     ensures { λ _. ⌜ Folded (f .modulus) (now (table .entry)) j j at (now (values .entry)) (now (values .exit)) ⌝ }
 {
@@ -65,7 +71,7 @@ fn fold(f: Field, none: &[u16], table: &[u16; 144], j: usize, at: usize, values:
         field::products::add_products(
             f,
             &none[..half / 2],
-            table[12 * j + i],
+            table[MAX * j + i],
             at + half,
             at + p,
             values,
@@ -75,7 +81,7 @@ fn fold(f: Field, none: &[u16], table: &[u16; 144], j: usize, at: usize, values:
 }
 
 // Low + W_j * high, of the two halves of 2^(j+1) coefficients.
-fn expand(f: Field, none: &[u16], table: &[u16; 144], j: usize, values: &mut [u16])
+fn expand(f: Field, none: &[u16], table: &[u16; TABLE], j: usize, values: &mut [u16])
     requires { ⌜ Tabled f (now none) (now table) (j + 1) × Below (2 ^ degree (f .modulus)) (now values) × (length (now values) ≡ 2 ^ j + 2 ^ j) ⌝ }
     ensures { λ _. ⌜ Expanded (f .modulus) (now (table .entry)) j (now (values .entry)) (now (values .exit)) ⌝ }
 {
@@ -84,7 +90,7 @@ fn expand(f: Field, none: &[u16], table: &[u16; 144], j: usize, values: &mut [u1
 }
 
 // Division by W_j: the remainder becomes low, the quotient high.
-fn divide(f: Field, none: &[u16], table: &[u16; 144], j: usize, values: &mut [u16])
+fn divide(f: Field, none: &[u16], table: &[u16; TABLE], j: usize, values: &mut [u16])
     requires { ⌜ Tabled f (now none) (now table) (j + 1) × Below (2 ^ degree (f .modulus)) (now values) × (length (now values) ≡ 2 ^ j + 2 ^ j) ⌝ }
     ensures { λ _. ⌜ Expanded (f .modulus) (now (table .entry)) j (now (values .exit)) (now (values .entry)) ⌝ }
 {
@@ -93,7 +99,7 @@ fn divide(f: Field, none: &[u16], table: &[u16; 144], j: usize, values: &mut [u1
 }
 
 // To coefficients of powers of x, from those of products of W_j.
-pub fn to_monomials(f: Field, none: &[u16], table: &[u16; 144], m: usize, values: &mut [u16])
+pub fn to_monomials(f: Field, none: &[u16], table: &[u16; TABLE], m: usize, values: &mut [u16])
     requires { ⌜ Tabled f (now none) (now table) m × Below (2 ^ degree (f .modulus)) (now values) × (length (now values) ≡ 2 ^ m) ⌝ }
     ensures { λ _. ⌜ Monomials (f .modulus) (now (table .entry)) m (now (values .entry)) (now (values .exit)) ⌝ }
 {
@@ -108,7 +114,7 @@ pub fn to_monomials(f: Field, none: &[u16], table: &[u16; 144], m: usize, values
 }
 
 // From coefficients of powers of x, to those of products of W_j.
-pub fn from_monomials(f: Field, none: &[u16], table: &[u16; 144], m: usize, values: &mut [u16])
+pub fn from_monomials(f: Field, none: &[u16], table: &[u16; TABLE], m: usize, values: &mut [u16])
     requires { ⌜ Tabled f (now none) (now table) m × Below (2 ^ degree (f .modulus)) (now values) × (length (now values) ≡ 2 ^ m) ⌝ }
     ensures { λ _. ⌜ Monomials (f .modulus) (now (table .entry)) m (now (values .exit)) (now (values .entry)) ⌝ }
 {
@@ -122,15 +128,15 @@ pub fn from_monomials(f: Field, none: &[u16], table: &[u16; 144], m: usize, valu
     from_monomials(f, none, table, j, &mut values[n..]);
 }
 
-fn room() -> [u16; 512]
+fn room() -> [u16; MAX_COEFFICIENTS]
     ensures { λ r. ⌜ r ≡ zeroRoom ⌝ }
 {
-    [0u16; 512]
+    [0u16; MAX_COEFFICIENTS]
 }
 
 // The product of steps[j] over the one bits j of i, at each i below 2^m.
-pub fn scales(f: Field, none: &[u16], steps: &[u16; 16], m: usize) -> [u16; 512]
-    requires { ⌜ Sized f × Irreducible (f .modulus) × (m ≤ 9) × Below (2 ^ degree (f .modulus)) (now steps) × Zeros (now none) ⌝ }
+pub fn scales(f: Field, none: &[u16], steps: &[u16; 16], m: usize) -> [u16; MAX_COEFFICIENTS]
+    requires { ⌜ Sized f × Irreducible (f .modulus) × (m ≤ maxDim - 3) × Below (2 ^ degree (f .modulus)) (now steps) × Zeros (now none) ⌝ }
     ensures { λ r. ⌜ Scales (f .modulus) (now (steps .entry)) m r ⌝ }
 {
     let mut out = room();

@@ -7,7 +7,7 @@ use borrow.Author.Tests.{lt-ltb, le-ltb}
 use lib.Pow.{pow-mono}
 use Rattle.lists.specs.Pick.{pick-true, pick-false}
 use Rattle.lists.specs.Tables.{part-fits}
-use Rattle.space.specs.Sizes.{maxDim}
+use Rattle.space.specs.Sizes.{maxDim, maxColumn}
 use Rattle.proximity.specs.Dim.{half, rowDim, colDim, S}
 use Rattle.proximity.specs.declared.Line.{Line}
 use Rattle.proximity.specs.declared.Line.the-variants.{Row, Column}
@@ -52,8 +52,8 @@ module _ (k : ℕ) where
         flat = λ i l. by-line (λ x. InRange k x → lineDim k x ≤ 6) i (λ u v. absurd (omega arith)) (λ u v. absurd (omega arith));
       }
 
-  pub few-lines : k ≤ maxDim → (2 ^ colDim k ≤ 64) × (2 ^ (half k + 2) ≤ 256)
-  few-lines h = (pow-mono {j = 6} (omega arith), pow-mono {j = 8} (omega arith))
+  pub few-lines : k ≤ maxDim → (2 ^ colDim k ≤ maxColumn) × (2 ^ (half k + 2) ≤ 2 ^ (half maxDim + 2))
+  few-lines h = (pow-mono {j = colDim maxDim} (omega arith), pow-mono {j = half maxDim + 2} (omega arith))
 
   -- the proof of an earlier line ends where that of a later one begins, or before
   ends-before : (i j : ℕ) → i < j → (l m : Line) → lineAt k i ≡ l → lineAt k j ≡ m → Dec (i < 2 ^ colDim k) → Dec (j < 2 ^ colDim k) → proofEnd k l ≤ proofAt k m

@@ -19,7 +19,7 @@ use Rattle.poly.specs.Poly.{eval, eval-sym}
 use Rattle.poly.specs.Span.{elem, elem-sym}
 use Rattle.poly.specs.Codeword.{Basis, Codeword}
 use Rattle.space.specs.Images.{Images}
-use Rattle.space.specs.Sizes.{maxDim}
+use Rattle.space.specs.Sizes.{maxDim, maxLine}
 use Rattle.proximity.specs.Dim.{half, rowDim, colDim, dim, S}
 use Rattle.proximity.specs.Tree.{S-leaf, S-node}
 use Rattle.proximity.specs.Spaces.{rowBasis}
@@ -199,16 +199,16 @@ module _ (f : Field) (k : ℕ) (t w : List ℕ) (p : Proving f k t w) (s : 7 ≤
   stored-rows = omega (arith, g .long, S-node k s)
 
   module _ (m size at end : ℕ) (em : m ≡ lineDim k line) (ez : size ≡ 2 ^ m) (ea : at ≡ proofAt k line) (ee : end ≡ proofEnd k line) (inner t′ : List ℕ)
-      (ei : (length inner ≡ 512) × (take (2 ^ lineDim k line) inner ≡ lineWord k w π line)) (T : LineTable k t line t′) where
-    pub dimension-falls : (m < k) × (m ≤ 9)
+      (ei : (length inner ≡ maxLine) × (take (2 ^ lineDim k line) inner ≡ lineWord k w π line)) (T : LineTable k t line t′) where
+    pub dimension-falls : (m < k) × (m ≤ rowDim maxDim)
     dimension-falls = (omega (arith, line-falls k s line), omega (arith, line-falls k s line, small line))
       where
-        small : (x : Line) → lineDim k x ≤ 9
+        small : (x : Line) → lineDim k x ≤ rowDim maxDim
         small (Row r) = omega (arith, p .high)
         small (Column a) = omega (arith, p .high)
 
     inner-room : size ≤ length inner
-    inner-room = let few : 2 ^ m ≤ 2 ^ 9 = pow-mono {j = 9} (dimension-falls .1) in omega (arith, ei .0)
+    inner-room = let few : 2 ^ m ≤ maxLine = pow-mono {j = rowDim maxDim} (dimension-falls .1) in omega (arith, ei .0)
 
     stretch-fits : (at ≤ end) × (end ≤ length π)
     stretch-fits = (omega arith, omega (arith, line-proof-fits k s line line-in-range, g .long))

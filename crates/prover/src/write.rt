@@ -28,7 +28,7 @@ fn line_at(k: usize, i: usize) -> Line
 // How many lines have a proof: the rows before the columns, which have the lower dimension.
 fn deep_lines(k: usize) -> usize
     requires { ⌜ (7 ≤ k) × (k ≤ maxDim) ⌝ }
-    ensures { λ n. ⌜ Deep k n × (n ≤ 1024) ⌝ }
+    ensures { λ n. ⌜ Deep k n × (n ≤ 2 ^ maxDim) ⌝ }
 {
     let h = k / 2;
     if h + 3 <= 6 {

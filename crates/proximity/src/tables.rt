@@ -1,10 +1,11 @@
 // S and R by dimension: how many symbols a proof has, and how many bits a coin.
+use space::MAX;
 ghost use mathlib.Core.Path.{_≡_};
 ghost use Prim.Native.Nat.{_≤_};
 ghost use Rattle.space.specs.Sizes.{maxDim};
 ghost use Rattle.proximity.specs.Dim.{S, R};
 
-const LENGTHS: [usize; 13] = [
+const LENGTHS: [usize; MAX + 1] = [
     0,
     0,
     0,
@@ -20,7 +21,7 @@ const LENGTHS: [usize; 13] = [
     2093056,
 ];
 
-const BITS: [u32; 13] = [0, 0, 0, 0, 0, 0, 0, 6, 11, 12, 17, 18, 19];
+const BITS: [u32; MAX + 1] = [0, 0, 0, 0, 0, 0, 0, 6, 11, 12, 17, 18, 19];
 
 // S(k).
 pub fn proof_length(k: usize) -> usize

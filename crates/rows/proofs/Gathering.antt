@@ -12,7 +12,7 @@ use lib.Seq.{length-take-le}
 use Rattle.lists.specs.Filled.{Filled, filled-part, filled-other, put-filled}
 use Rattle.lists.specs.Overwrite.{length-cut, copy-whole}
 use Rattle.lists.specs.Tables.{part, part-fits, part-append, length-part, getD-part, tab-of}
-use Rattle.space.specs.Sizes.{maxDim}
+use Rattle.space.specs.Sizes.{maxDim, maxLine, maxColumn}
 use Rattle.proximity.specs.Dim.{half, rowDim, colDim}
 use Rattle.proximity.specs.Proof.{slot, row, block}
 use Rattle.proximity.specs.Subspaces.{pow-rows, pow-eight}
@@ -28,15 +28,15 @@ cut-part n size m i xs en es =
     ap₂ (λ (x y : ℕ). take x (drop y xs)) (count ∙ es) (ap₂ _*_ en es)
 
 module _ (k : ℕ) (top : k ≤ maxDim) (w π : List ℕ) (lw : length w ≡ 2 ^ k) (lπ : 7 * 2 ^ k ≤ length π) (r : ℕ) (hr : r < 2 ^ colDim k) (size : ℕ) (es : size ≡ 2 ^ half k) where
-  small : 2 ^ k ≤ 4096
+  small : 2 ^ k ≤ 2 ^ maxDim
   small = pow-mono {j = maxDim} top
 
-  pub few-rows : r < 64
-  few-rows = let few : 2 ^ colDim k ≤ 2 ^ 6 = pow-mono {j = 6} (omega arith) in omega arith
+  pub few-rows : r < maxColumn
+  few-rows = let few : 2 ^ colDim k ≤ maxColumn = pow-mono {j = colDim maxDim} (omega arith) in omega arith
 
   -- ---- the block that lies in the word
 
-  pub own-fits : (r * size + size ≤ length w) × (r * size + size ≤ 4096)
+  pub own-fits : (r * size + size ≤ length w) × (r * size + size ≤ 2 ^ maxDim)
   own-fits =
       let n : r * size + size ≤ 2 ^ k = omega (arith, ap (λ (x : ℕ). r * x) es, pow-rows k, part-fits (2 ^ half k) hr) in
       (omega arith, omega (arith, small))
@@ -46,7 +46,7 @@ module _ (k : ℕ) (top : k ≤ maxDim) (w π : List ℕ) (lw : length w ≡ 2 ^
 
   -- ---- a stored one
   module _ (j n : ℕ) (hj : j < 8) (d : j ≡ slot r → ⊥) (en : n ≡ number r j) where
-    pub stored-fits : (n * size + size ≤ length π) × (n * size + size ≤ 28672)
+    pub stored-fits : (n * size + size ≤ length π) × (n * size + size ≤ 7 * 2 ^ maxDim)
     stored-fits =
         let m : n * size + size ≤ 7 * 2 ^ k = omega (arith, ap₂ _*_ en es, number-fits k r j hr hj d) in
         (omega arith, omega (arith, small))
@@ -80,13 +80,13 @@ module _ (k : ℕ) (top : k ≤ maxDim) (w π : List ℕ) (lw : length w ≡ 2 ^
   -- ---- the blocks, one after the other
 
   abbrev Gathered : ℕ → List ℕ → Type 0
-  Gathered j out = (length out ≡ 512) × ((i : ℕ) → i < j → part (2 ^ half k) i out ≡ block k w π r i)
+  Gathered j out = (length out ≡ maxLine) × ((i : ℕ) → i < j → part (2 ^ half k) i out ≡ block k w π r i)
 
-  row-room : 8 * 2 ^ half k ≤ 512
-  row-room = let few : 2 ^ half k ≤ 2 ^ 6 = pow-mono {j = 6} (omega arith) in omega arith
+  row-room : 8 * 2 ^ half k ≤ maxLine
+  row-room = let few : 2 ^ half k ≤ 2 ^ half maxDim = pow-mono {j = half maxDim} (omega arith) in omega arith
 
   module _ (j : ℕ) (hj : j < 8) where
-    pub block-room : j * size + size ≤ 512
+    pub block-room : j * size + size ≤ maxLine
     block-room = omega (arith, ap (λ (x : ℕ). j * x) es, part-fits (2 ^ half k) hj, row-room)
 
     pub gathered-next : (out b v : List ℕ) → Gathered j out → b ≡ block k w π r j → v ≡ b ++ drop (length b) (take (j * size + size - j * size) (drop (j * size) out))

@@ -18,7 +18,7 @@ use Rattle.field.specs.Binary.{_⊕_, degree, Irreducible}
 use Rattle.field.specs.Symbols.{symbols}
 use Rattle.field.specs.Xor.{xor-laws, xor-zero-right}
 use Rattle.poly.specs.Span.{bitOf, elem}
-use Rattle.space.specs.Sizes.{maxDim, cells}
+use Rattle.space.specs.Sizes.{maxDim, cells, laneCells}
 use Rattle.transform.specs.Lanes.{imageAt}
 use Rattle.transform.specs.Spans.{SpanLanes}
 use Rattle.proximity.specs.Dim.{half, colDim}
@@ -98,7 +98,7 @@ module _ (k : ℕ) (s : 7 ≤ k) (top : k ≤ maxDim) (t : List ℕ) (r j i : �
 
 -- the first n lanes have b_(h+3), the others β
 pub record LastUpto (k n : ℕ) (t xs : List ℕ) : Type 0 where
-  pub count : length xs ≡ 384
+  pub count : length xs ≡ laneCells
   pub low : (i r : ℕ) → i < half k → r < 2 ^ colDim k → r < n → getD xs (i * 2 ^ colDim k + r) 0 ≡ imageAt t (half k + 2) i
   pub high : (i r : ℕ) → i < half k → r < 2 ^ colDim k → n ≤ r → (q : ℕ) → Irreducible q → getD xs (i * 2 ^ colDim k + r) 0 ≡ ownImage k t r i
   pub outside : (p : ℕ) → half k * 2 ^ colDim k ≤ p → getD xs p 0 ≡ 0

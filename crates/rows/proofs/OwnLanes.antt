@@ -15,7 +15,7 @@ use Rattle.field.specs.Xor.{xor-zero-right}
 use Rattle.field.specs.declared.Field.{Field}
 use Rattle.poly.specs.Span.{elem, elem-sym}
 use Rattle.poly.specs.Transform.{inverse, inverse-ext}
-use Rattle.space.specs.Sizes.{maxDim}
+use Rattle.space.specs.Sizes.{maxDim, laneCells, maxColumn}
 use Rattle.transform.specs.Lanes.{imageAt, laneShift, InLanes, Interpolated}
 use Rattle.transform.specs.Slices.{Transposed}
 use Rattle.transform.specs.Spans.{Zeros, imageList, SpanLanes}
@@ -27,10 +27,10 @@ use Rattle.proximity.specs.ImageLaws.{same-elem}
 use Rattle.rows.specs.Rows.{InTable, ownImage, rowLane, Coefficients}
 
 -- the lanes have room
-pub few-lanes : (k : ℕ) → k ≤ maxDim → half k * 2 ^ colDim k ≤ 384
+pub few-lanes : (k : ℕ) → k ≤ maxDim → half k * 2 ^ colDim k ≤ laneCells
 few-lanes k h =
-    let few : 2 ^ colDim k ≤ 2 ^ 6 = pow-mono {j = 6} (omega arith) in
-    omega (arith, mul-le-mul-right {m = half k} {n = 6} (2 ^ colDim k) (omega arith))
+    let few : 2 ^ colDim k ≤ maxColumn = pow-mono {j = colDim maxDim} (omega arith) in
+    omega (arith, mul-le-mul-right {m = half k} {n = half maxDim} (2 ^ colDim k) (omega arith))
 
 pub rows-times : (k : ℕ) → 2 ^ k ≡ 2 ^ half k * 2 ^ colDim k
 rows-times k = pow-rows k ∙ mul-comm (2 ^ colDim k) (2 ^ half k)

@@ -16,7 +16,7 @@ use Rattle.field.specs.Binary.{_⊕_, degree}
 use Rattle.field.specs.Symbols.{symbols}
 use Rattle.field.specs.declared.Field.{Field}
 use Rattle.poly.specs.Transform.{transform, transform-ext}
-use Rattle.space.specs.Sizes.{maxDim}
+use Rattle.space.specs.Sizes.{maxDim, laneCells}
 use Rattle.transform.specs.Lanes.{imageAt, laneShift, InLanes, Evaluated}
 use Rattle.transform.specs.Spans.{Zeros}
 use Rattle.proximity.specs.Dim.{half, colDim}
@@ -64,14 +64,14 @@ module _ (n : ℕ) (w v : List ℕ) (lw : 2 * n ≤ length w) (e : v ≡ take n 
 -- ---- the evaluation
 
 module _ (f : Field) (k j : ℕ) (t last : List ℕ) (T : InTable f k t) (L : LastLanes k t last) (hj : j < 8) (from shift : List ℕ)
-    (zf : j < 4 → Zeros 384 from) (lf : 4 ≤ j → from ≡ last) (es : shift ≡ elementImages (half k) 2 t j) where
+    (zf : j < 4 → Zeros laneCells from) (lf : 4 ≤ j → from ≡ last) (es : shift ≡ elementImages (half k) 2 t j) where
   abbrev q : ℕ
   q = f .modulus
 
   abbrev Small : ℕ → Type 0
   Small x = x < 2 ^ degree q
 
-  length-from : Dec (j < 4) → length from ≡ 384
+  length-from : Dec (j < 4) → length from ≡ laneCells
   length-from (yes h) = zf h .count
   length-from (no h) = ap length (lf (omega arith)) ∙ L .count
 

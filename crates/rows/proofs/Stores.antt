@@ -125,7 +125,7 @@ module _ (k r j n size rows : ℕ) (s : k ≤ maxDim) (hr : r < 2 ^ colDim k) (h
   pub lane-fits : n * size + size ≤ length old
   lane-fits = omega (arith, at-number, number-fits k r j hr hj d)
 
-  pub lane-small : n * size + size ≤ 28672
+  pub lane-small : n * size + size ≤ 7 * 2 ^ maxDim
   lane-small = omega (arith, at-number, number-fits k r j hr hj d, pow-mono {i = k} {j = maxDim} s)
 
   length-lane-lent : length (take (n * size + size - n * size) (drop (n * size) old)) ≡ size

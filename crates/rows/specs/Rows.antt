@@ -13,7 +13,7 @@ use Rattle.field.specs.Products.{Sized}
 use Rattle.field.specs.Symbols.{symbols}
 use Rattle.field.specs.declared.Field.{Field}
 use Rattle.poly.specs.Transform.{transform, inverse}
-use Rattle.space.specs.Sizes.{maxDim, cells}
+use Rattle.space.specs.Sizes.{maxDim, cells, laneCells}
 use Rattle.transform.specs.Lanes.{imageAt}
 use Rattle.proximity.specs.Dim.{half, colDim}
 use Rattle.proximity.specs.Proof.{slot}
@@ -59,7 +59,7 @@ pub record Coefficients (q k : ℕ) (t w xs : List ℕ) : Type 0 where
 
 -- lane r has the images of the last basis element of row r
 pub record LastLanes (k : ℕ) (t xs : List ℕ) : Type 0 where
-  pub count : length xs ≡ 384
+  pub count : length xs ≡ laneCells
   pub inside : (q : ℕ) → Irreducible q → (i r : ℕ) → i < half k → r < 2 ^ colDim k → getD xs (i * 2 ^ colDim k + r) 0 ≡ imageAt (rowImages k t r) (half k + 2) i
   pub below : (q : ℕ) → Irreducible q → Below (2 ^ degree q) t → Below (2 ^ degree q) xs
 

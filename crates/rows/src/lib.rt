@@ -5,6 +5,7 @@ use field::Field;
 use proximity::lines;
 use proximity::spaces;
 use space::CELLS;
+use space::LANE_CELLS;
 use transform::blocks;
 use transform::lanes;
 use transform::slices;
@@ -15,7 +16,7 @@ ghost use lib.ListN.{length, getD, take};
 ghost use Rattle.lists.specs.All.{Below};
 ghost use Rattle.lists.specs.Filled.{Filled};
 ghost use Rattle.field.specs.Binary.{degree};
-ghost use Rattle.space.specs.Sizes.{maxDim, cells};
+ghost use Rattle.space.specs.Sizes.{maxDim, cells, laneCells, maxColumn};
 ghost use Rattle.transform.specs.Spans.{Zeros};
 ghost use Rattle.proximity.specs.Dim.{half, colDim};
 ghost use Rattle.proximity.specs.Proof.{slot};
@@ -33,7 +34,7 @@ fn interpolate_rows(f: Field, images: &[u16; CELLS], k: usize, word: &[u16], wor
 }
 
 // The lanes of the last basis elements of the rows: b_(h+3) for the first four rows, else β.
-fn last_lanes(images: &[u16; CELLS], k: usize) -> [u16; 384]
+fn last_lanes(images: &[u16; CELLS], k: usize) -> [u16; LANE_CELLS]
     requires { ⌜ (7 ≤ k) × (k ≤ maxDim) × (length (now images) ≡ cells) ⌝ }
     ensures { λ r. ⌜ LastLanes k (now (images .entry)) r ⌝ }
 {
@@ -50,8 +51,8 @@ fn last_lanes(images: &[u16; CELLS], k: usize) -> [u16; 384]
 }
 
 // The lanes of pass j: the last basis element counts from block 4 on.
-fn pass_lanes(j: usize, last: &[u16; 384]) -> [u16; 384]
-    ensures { λ r. ⌜ (j < 4 → Zeros 384 r) × (4 ≤ j → r ≡ now (last .entry)) ⌝ }
+fn pass_lanes(j: usize, last: &[u16; LANE_CELLS]) -> [u16; LANE_CELLS]
+    ensures { λ r. ⌜ (j < 4 → Zeros laneCells r) × (4 ≤ j → r ≡ now (last .entry)) ⌝ }
 {
     if j < 4 {
         return spans::no_lanes();
@@ -65,7 +66,7 @@ fn evaluate_rows(
     images: &[u16; CELLS],
     k: usize,
     j: usize,
-    last: &[u16; 384],
+    last: &[u16; LANE_CELLS],
     work: &mut [u16],
 )
     requires { ⌜ InTable f k (now images) × LastLanes k (now images) (now last) × (j < 8) ⌝ }
@@ -90,7 +91,7 @@ fn evaluate_rows(
 
 // The number of block j of row r among all stored blocks.
 pub fn number(r: usize, j: usize) -> usize
-    requires { ⌜ (r < 64) × (j < 8) × (j ≡ slot r → ⊥) ⌝ }
+    requires { ⌜ (r < maxColumn) × (j < 8) × (j ≡ slot r → ⊥) ⌝ }
     ensures { λ n. ⌜ n ≡ number r j ⌝ }
 {
     if j < lines::slot(r) {

@@ -2,19 +2,20 @@
 use super::number;
 use proximity::Line;
 use proximity::lines;
+use space::MAX_LINE;
 use transform::slices;
 ghost use mathlib.Core.Path.{_≡_};
 ghost use Prim.Native.Nat.{_+_, _*_, _^_, _<_, _≤_};
 ghost use lib.ListN.{length, take, getD, replicate};
-ghost use Rattle.space.specs.Sizes.{maxDim};
+ghost use Rattle.space.specs.Sizes.{maxDim, maxLine};
 ghost use Rattle.proximity.specs.Dim.{half, rowDim, colDim};
 ghost use Rattle.proximity.specs.Proof.{row, column, block};
 ghost use Rattle.proximity.specs.ByLine.{InRange, lineDim, lineWord};
 
-fn no_symbols() -> [u16; 512]
-    ensures { λ r. ⌜ r ≡ replicate 512 0 ⌝ }
+fn no_symbols() -> [u16; MAX_LINE]
+    ensures { λ r. ⌜ r ≡ replicate maxLine 0 ⌝ }
 {
-    [0u16; 512]
+    [0u16; MAX_LINE]
 }
 
 // Block j of row r, as a part of the word or of the proof.
@@ -35,9 +36,9 @@ fn block<'a>(k: usize, word: &'a [u16], proof: &'a [u16], r: usize, j: usize) ->
 }
 
 // The word of row r, block by block.
-fn row_word<'a>(k: usize, word: &'a [u16], proof: &'a [u16], r: usize) -> [u16; 512]
+fn row_word<'a>(k: usize, word: &'a [u16], proof: &'a [u16], r: usize) -> [u16; MAX_LINE]
     requires { ⌜ (7 ≤ k) × (k ≤ maxDim) × (length (now word) ≡ 2 ^ k) × (7 * 2 ^ k ≤ length (now proof)) × (r < 2 ^ colDim k) ⌝ }
-    ensures { λ s. ⌜ (length s ≡ 512) × (take (2 ^ rowDim k) s ≡ row k (now (word .entry)) (now (proof .entry)) r) ⌝ }
+    ensures { λ s. ⌜ (length s ≡ maxLine) × (take (2 ^ rowDim k) s ≡ row k (now (word .entry)) (now (proof .entry)) r) ⌝ }
 {
     let size = lines::block_size(k);
     let mut out = no_symbols();
@@ -63,9 +64,9 @@ fn row_symbol<'a>(k: usize, word: &'a [u16], proof: &'a [u16], r: usize, a: usiz
 }
 
 // The word of column a, row by row.
-fn column_word<'a>(k: usize, word: &'a [u16], proof: &'a [u16], a: usize) -> [u16; 512]
+fn column_word<'a>(k: usize, word: &'a [u16], proof: &'a [u16], a: usize) -> [u16; MAX_LINE]
     requires { ⌜ (7 ≤ k) × (k ≤ maxDim) × (length (now word) ≡ 2 ^ k) × (7 * 2 ^ k ≤ length (now proof)) × (a < 2 ^ (half k + 2)) ⌝ }
-    ensures { λ s. ⌜ (length s ≡ 512) × (take (2 ^ colDim k) s ≡ column k (now (word .entry)) (now (proof .entry)) a) ⌝ }
+    ensures { λ s. ⌜ (length s ≡ maxLine) × (take (2 ^ colDim k) s ≡ column k (now (word .entry)) (now (proof .entry)) a) ⌝ }
 {
     let rows = lines::rows(k);
     let mut out = no_symbols();
@@ -78,9 +79,9 @@ fn column_word<'a>(k: usize, word: &'a [u16], proof: &'a [u16], a: usize) -> [u1
 }
 
 // The word of a line.
-pub fn line_word<'a>(k: usize, line: Line, word: &'a [u16], proof: &'a [u16]) -> [u16; 512]
+pub fn line_word<'a>(k: usize, line: Line, word: &'a [u16], proof: &'a [u16]) -> [u16; MAX_LINE]
     requires { ⌜ (7 ≤ k) × (k ≤ maxDim) × (length (now word) ≡ 2 ^ k) × (7 * 2 ^ k ≤ length (now proof)) × InRange k line ⌝ }
-    ensures { λ s. ⌜ (length s ≡ 512) × (take (2 ^ lineDim k line) s ≡ lineWord k (now (word .entry)) (now (proof .entry)) line) ⌝ }
+    ensures { λ s. ⌜ (length s ≡ maxLine) × (take (2 ^ lineDim k line) s ≡ lineWord k (now (word .entry)) (now (proof .entry)) line) ⌝ }
 {
     match line {
         Line::Row(r) => row_word(k, word, proof, r),

@@ -9,18 +9,18 @@ maxDim = 12
 abbrev pub cells : ℕ
 cells = 16 * maxDim
 
--- the lanes of all rows: for each element of the basis of a block, a list with a place for each row
-abbrev pub lanes : ℕ
-lanes = maxDim / 2 * 2 ^ (maxDim - maxDim / 2)
+-- lists for the first half of a basis, with a place for each row
+abbrev pub laneCells : ℕ
+laneCells = maxDim / 2 * 2 ^ (maxDim - maxDim / 2)
 
--- the longest row
-abbrev pub rowSize : ℕ
-rowSize = 2 ^ (maxDim / 2 + 3)
+-- the symbols of the longest row
+abbrev pub maxLine : ℕ
+maxLine = 2 ^ (maxDim / 2 + 3)
 
--- the longest column
-abbrev pub columnSize : ℕ
-columnSize = 2 ^ (maxDim - maxDim / 2)
+-- the symbols of the longest column, which are also the most rows
+abbrev pub maxColumn : ℕ
+maxColumn = 2 ^ (maxDim - maxDim / 2)
 
--- the dimension of the coefficients of the longest word
-abbrev pub coefficientDim : ℕ
-coefficientDim = maxDim - 3
+-- the coefficients of the longest word
+abbrev pub maxCoefficients : ℕ
+maxCoefficients = 2 ^ (maxDim - 3)

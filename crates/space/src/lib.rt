@@ -18,11 +18,23 @@ ghost use mathlib.Core.List.{_++_};
 ghost use Rattle.space.specs.Setting.{Tabled, noTables, noSetting, paddedOf, basisChecks, Made, Settled};
 ghost use Rattle.space.specs.Sizes.{maxDim};
 
-// The largest dimension.
+// The largest dimension. The sizes of arrays follow from it.
 pub const MAX: usize = 12;
 
-// The places of the table of a space: 16 for each basis element.
+// The table of a space: 16 places for each basis element.
 pub const CELLS: usize = 16 * MAX;
+
+// Lists for the first half of a basis, with a place for each row.
+pub const LANE_CELLS: usize = (MAX / 2) << (MAX - MAX / 2);
+
+// The symbols of the longest row.
+pub const MAX_LINE: usize = 1 << (MAX / 2 + 3);
+
+// The symbols of the longest column.
+pub const MAX_COLUMN: usize = 1 << (MAX - MAX / 2);
+
+// The coefficients of the longest word.
+pub const MAX_COEFFICIENTS: usize = 1 << (MAX - 3);
 
 // The dimension, and the normalised image of number j of b_(i+1) at 16 * i + j.
 pub struct Space {

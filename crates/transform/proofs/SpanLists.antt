@@ -16,6 +16,7 @@ use Rattle.field.specs.Binary.{_⊕_, Irreducible}
 use Rattle.field.specs.Symbols.{symbols, symbols-field}
 use Rattle.poly.specs.Span.{elem, elem-zero}
 use Rattle.poly.specs.Novel.{elem-high}
+use Rattle.space.specs.Sizes.{laneCells}
 use Rattle.transform.proofs.Halves.{next-pow}
 use Rattle.transform.specs.Lanes.{imageAt}
 use Rattle.transform.specs.Spans.{Zeros, imageList, SpanList, SpanLanes}
@@ -54,11 +55,11 @@ module _ (images : List ℕ) (from c j : ℕ) where
 -- ---- the lists one after the other
 
 module _ (images : List ℕ) (from c : ℕ) where
-  pub lanes-none : (xs : List ℕ) → Zeros 384 xs → SpanLanes images from c 0 xs
+  pub lanes-none : (xs : List ℕ) → Zeros laneCells xs → SpanLanes images from c 0 xs
   lanes-none xs z = record { count = z .count; inside = λ j h. absurd (omega arith); outside = λ p h. z .each p }
 
   -- one more list, as the code puts it
-  pub lanes-next : (m n : ℕ) (v ys : List ℕ) → n ≡ 2 ^ c → m * n + n ≤ 384 → SpanLanes images from c m v → length ys ≡ n → SpanList images from c m (2 ^ c) ys
+  pub lanes-next : (m n : ℕ) (v ys : List ℕ) → n ≡ 2 ^ c → m * n + n ≤ laneCells → SpanLanes images from c m v → length ys ≡ n → SpanList images from c m (2 ^ c) ys
       → SpanLanes images from c (m + 1) (putMid (m * n) (m * n + n - m * n) v ys)
   lanes-next m n v ys en h s ly sy =
       record {

@@ -6,6 +6,7 @@ use lib.ListN.{length, getD}
 use Rattle.lists.specs.Tables.{tab}
 use Rattle.field.specs.Binary.{Irreducible}
 use Rattle.field.specs.Symbols.{symbols}
+use Rattle.space.specs.Sizes.{laneCells}
 use Rattle.poly.specs.Span.{elem}
 use Rattle.transform.specs.Lanes.{imageAt}
 
@@ -24,6 +25,6 @@ SpanList images from c j n xs = (q : ℕ) → Irreducible q → (e : ℕ) → e 
 
 -- m lists of 2^c numbers, list j with the images of number j, and zeros after them
 pub record SpanLanes (images : List ℕ) (from c m : ℕ) (xs : List ℕ) : Type 0 where
-  pub count : length xs ≡ 384
+  pub count : length xs ≡ laneCells
   pub inside : (j : ℕ) → j < m → (q : ℕ) → Irreducible q → (e : ℕ) → e < 2 ^ c → getD xs (j * 2 ^ c + e) 0 ≡ elem (symbols q) (imageList images from c j) e
   pub outside : (p : ℕ) → m * 2 ^ c ≤ p → getD xs p 0 ≡ 0

@@ -1,18 +1,19 @@
 // The images of the elements of a span, as lanes of a transform.
 use space::CELLS;
+use space::LANE_CELLS;
 ghost use mathlib.Core.Path.{_≡_};
 ghost use Prim.Native.Nat.{ℕ, _+_, _*_, _<_, _≤_, _^_};
 ghost use lib.ListN.{length, getD};
 ghost use Rattle.lists.specs.Filled.{Filled};
 ghost use Rattle.field.specs.Binary.{_⊕_};
 ghost use Rattle.transform.specs.Spans.{Zeros, SpanList, SpanLanes};
-ghost use Rattle.space.specs.Sizes.{maxDim};
+ghost use Rattle.space.specs.Sizes.{maxDim, laneCells};
 
 // Lanes of the element 0.
-pub fn no_lanes() -> [u16; 384]
-    ensures { λ r. ⌜ Zeros 384 r ⌝ }
+pub fn no_lanes() -> [u16; LANE_CELLS]
+    ensures { λ r. ⌜ Zeros laneCells r ⌝ }
 {
-    [0u16; 384]
+    [0u16; LANE_CELLS]
 }
 
 // The first n numbers of a list again after them, with x added.
@@ -42,8 +43,8 @@ fn span_list(images: &[u16; CELLS], from: usize, c: usize, j: usize, list: &mut 
 
 // The lanes of the span of c basis elements, from number `from` on: m lists of 2^c, list j with the
 // images of number j.
-pub fn span_lanes(images: &[u16; CELLS], from: usize, c: usize, m: usize) -> [u16; 384]
-    requires { ⌜ (m * 2 ^ c ≤ 384) × (from + c ≤ maxDim) × (m ≤ 16) ⌝ }
+pub fn span_lanes(images: &[u16; CELLS], from: usize, c: usize, m: usize) -> [u16; LANE_CELLS]
+    requires { ⌜ (m * 2 ^ c ≤ laneCells) × (from + c ≤ maxDim) × (m ≤ 16) ⌝ }
     ensures { λ r. ⌜ SpanLanes (now (images .entry)) from c m r ⌝ }
 {
     let mut lanes = no_lanes();

@@ -3,6 +3,7 @@ use mathlib.Core.Path.{refl}
 use native.Mathlib.Omega.{arith}
 use Prim.Native.Nat.{_+_, _*_, _^_, _≤_}
 use lib.Pow.{pow-mono}
+use Rattle.space.specs.Sizes.{maxDim, maxColumn}
 use Rattle.proximity.specs.Dim.{colDim}
 use Rattle.rows.proofs.Stores.{lane-fits, lane-small, lane-room, lane-stored}
 use borrow.Author.Needs.{needs}
@@ -15,14 +16,14 @@ block-size-requires c κs = search needs
 number-requires : tie.Need-number-requires
 number-requires c κs =
     let start = c .before .before .before in
-    let few : 2 ^ colDim (start .args .k) ≤ 2 ^ 6 = pow-mono {j = 6} (omega arith) in
+    let few : 2 ^ colDim (start .args .k) ≤ maxColumn = pow-mono {j = colDim maxDim} (omega arith) in
     (omega arith, start .pre .0 .3, start .pre .0 .4)
 
 module _ (c : tie.After-number) where
   abbrev start : tie.Start
   start = c .before .before .before .before
 
-  small : c .number .result * c .before .block-size .result + c .before .block-size .result ≤ 28672
+  small : c .number .result * c .before .block-size .result + c .before .block-size .result ≤ 7 * 2 ^ maxDim
   small =
       let a = start .args in
       let p = start .pre in

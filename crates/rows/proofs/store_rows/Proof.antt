@@ -6,6 +6,7 @@ use Prim.Native.Nat.{ℕ, _+_, _-_, _^_, _≤_}
 use native.Mathlib.Omega.{arith}
 use borrow.Author.Needs.{needs}
 use lib.Pow.{pow-mono}
+use Rattle.space.specs.Sizes.{maxDim, maxColumn}
 use Rattle.proximity.specs.Dim.{colDim}
 use Rattle.rows.specs.Rows.{PassStored}
 use Rattle.rows.proofs.Stores.{pass-none, pass-skip, pass-next}
@@ -40,7 +41,7 @@ store-lane-requires c κs =
 add-r : tie.Need-add-r Inv-loop μ-loop
 add-r c =
     let head = c .before .before .before in
-    let few : 2 ^ colDim (head .before .before .before .before .args .k) ≤ 2 ^ 6 = pow-mono {j = 6} (omega arith) in
+    let few : 2 ^ colDim (head .before .before .before .before .args .k) ≤ maxColumn = pow-mono {j = colDim maxDim} (omega arith) in
     omega (arith, head .loop .inv .0)
 
 loop-less : tie.Need-loop-less Inv-loop μ-loop

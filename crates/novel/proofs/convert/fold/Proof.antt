@@ -6,6 +6,7 @@ use native.Mathlib.Omega.{arith}
 use lib.ListN.{length, take}
 use lib.Pow.{pow-pos, pow-mono}
 use lib.Seq.{length-take-le}
+use Rattle.space.specs.Sizes.{maxDim, maxCoefficients}
 use Rattle.lists.specs.All.{Below, All-at, All-take, IsZero, zeros-below}
 use Rattle.lists.specs.Stretch.{Apart}
 use Rattle.field.specs.Binary.{degree, Irreducible}
@@ -35,7 +36,7 @@ module _ (c : tie.At-loop Inv-loop μ-loop) where
   half-is : half ≡ 2 ^ j
   half-is = c .before .power .ensures
 
-  half-small : half ≤ 256
+  half-small : half ≤ maxCoefficients / 2
   half-small = omega (arith, half-is, pow-mono {i = j} {j = 8} (omega (arith, start .pre .0 .few)))
 
   abbrev zeros : List ℕ
@@ -89,7 +90,7 @@ add-products-requires c κs =
     let pre = start here .pre in
     let apart = fold-apart m (pre .0 .irreducible) (a .table .now) (j here) (here .loop .i) (a .at) (a .values .now) (here .loop .values) (zeros here) (omega arith) (pre .2)
     (All-take IsZero (half here / 2) (a .none .now) (pre .0 .zeros .zero)) (length-zeros here ∙ ap (λ (n : ℕ). n / 2) (half-is here)) (folded here) in (
-      (pre .0 .sized, All-at (λ (x : ℕ). x < 2 ^ degree m) (a .table .now) 0 (pre .0 .below) (pow-pos (degree m)) (12 * j here + here .loop .i)),
+      (pre .0 .sized, All-at (λ (x : ℕ). x < 2 ^ degree m) (a .table .now) 0 (pre .0 .below) (pow-pos (degree m)) (maxDim * j here + here .loop .i)),
       (
         zeros-below (2 ^ degree m) (zeros here) (pow-pos (degree m)) (All-take IsZero (half here / 2) (a .none .now) (pre .0 .zeros .zero)),
         folded here .below,

@@ -7,6 +7,7 @@ use lib.ListN.{length, getD, take}
 use lib.Pow.{pow-pos, pow-mono}
 use lib.Seq.{length-take-le}
 use borrow.Author.Needs.{needs}
+use Rattle.space.specs.Sizes.{maxDim}
 use Rattle.lists.specs.All.{All, All-at, All-take, IsZero, zeros-below}
 use Rattle.lists.specs.Stretch.{Apart}
 use Rattle.field.specs.Binary.{degree, Irreducible}
@@ -47,7 +48,7 @@ module _ (c : tie.After-power Inv-loop μ-loop) where
   abbrev n : ℕ
   n = c .power .result
 
-  few : j < 9
+  few : j < maxDim - 3
   few = omega (arith, c .before .loop-test .taken, start .pre .2)
 
   n-is : n ≡ 2 ^ j

@@ -1,10 +1,12 @@
--- `novel::convert::table` meets its contract. The loop's invariant: the first p + 13 cells are filled, and the others are 0. Assumes nothing.
+-- `novel::convert::table` meets its contract. The loop's invariant: the first p + (maxDim + 1) cells are filled, and the others are 0. Assumes nothing.
 use mathlib.Core.List.{List}
 use Prim.Native.Nat.{ℕ, _+_, _-_, _*_, _≤_, _<_, _^_}
 use native.Mathlib.Omega.{arith}
 use lib.ListN.{getD}
 use lib.Pow.{pow-pos, pow-mono}
 use borrow.Author.Needs.{needs}
+use Rattle.novel.specs.Sparse.{tableCells}
+use Rattle.space.specs.Sizes.{maxDim}
 use Rattle.lists.specs.All.{All-at}
 use Rattle.lists.specs.Upto.{Upto}
 use Rattle.field.specs.Binary.{_⊕_, degree, Irreducible}
@@ -13,10 +15,10 @@ use Rattle.novel.proofs.convert.table.Statement.{statement}
 use Rattle.novel.proofs.convert.table.Tie as tie
 
 abbrev Inv-loop : tie.InvT-loop
-Inv-loop f steps count t₀ p₀ t p = (p ≤ 108) × ((irr : Irreducible (f .modulus)) → Upto 144 (p + 13) (cell (f .modulus) irr steps) t)
+Inv-loop f steps count t₀ p₀ t p = (p ≤ maxDim * (maxDim - 3)) × ((irr : Irreducible (f .modulus)) → Upto tableCells (p + (maxDim + 1)) (cell (f .modulus) irr steps) t)
 
 abbrev μ-loop : tie.MeasureT-loop
-μ-loop f steps count t₀ p₀ t p = 12 * count - p
+μ-loop f steps count t₀ p₀ t p = maxDim * count - p
 
 cells-requires : tie.Need-cells-requires Inv-loop μ-loop
 cells-requires c κs = search needs
@@ -53,7 +55,7 @@ module _ (c : tie.At-loop Inv-loop μ-loop) where
   abbrev steps : List ℕ
   steps = start .args .steps .now
 
-  filled : Upto 144 (c .loop .p + 13) (cell m (start .pre .1) steps) (c .loop .t)
+  filled : Upto tableCells (c .loop .p + (maxDim + 1)) (cell m (start .pre .1) steps) (c .loop .t)
   filled = c .loop .inv .1 (start .pre .1)
 
   step-symbol : (j : ℕ) → getD steps j 0 < 2 ^ degree m

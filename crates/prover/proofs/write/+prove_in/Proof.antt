@@ -6,6 +6,7 @@ use native.Mathlib.Omega.{arith}
 use lib.ListN.{length, take, drop}
 use lib.Pow.{pow-mono}
 use lib.Seq.{length-take-le}
+use Rattle.space.specs.Sizes.{maxDim}
 use Rattle.proximity.specs.Dim.{S}
 use Rattle.proximity.specs.Tree.{S-node}
 use Rattle.proximity.specs.ByLine.{InRange}
@@ -41,7 +42,7 @@ prove-in-below t =
 
 abbrev prove-in-Inv-loop : prove-in-lts.InvT-loop
 prove-in-Inv-loop f k images word proof₀ work₀ count i₀ proof work i =
-    (i ≤ count) × Deep k count × (count ≤ 1024) × (length work ≡ length work₀) × Progress (f .modulus) k images word i proof
+    (i ≤ count) × Deep k count × (count ≤ 2 ^ maxDim) × (length work ≡ length work₀) × Progress (f .modulus) k images word i proof
 
 abbrev prove-in-μ-loop : prove-in-lts.MeasureT-loop
 prove-in-μ-loop f k images word proof₀ work₀ count i₀ proof work i = count - i

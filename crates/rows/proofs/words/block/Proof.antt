@@ -1,8 +1,9 @@
 -- `rows::words::block` meets its contract: a case for the block in the word, one for a stored block. Assumes nothing.
 use mathlib.Core.Path.{_≡_, sym, _∙_}
-use Prim.Native.Nat.{_+_, _*_, _≤_}
+use Prim.Native.Nat.{_+_, _*_, _^_, _≤_}
 use native.Mathlib.Omega.{arith}
 use lib.ListN.{length}
+use Rattle.space.specs.Sizes.{maxDim}
 use Rattle.proximity.specs.Proof.{slot}
 use Rattle.rows.proofs.Gathering.{few-rows, own-fits, own-block, stored-fits, cut-block}
 use borrow.Author.Needs.{needs}
@@ -79,7 +80,7 @@ module _ (c : tie.After-number) where
   apart : start .args .j ≡ slot (start .args .r) → ⊥
   apart e = c .before .if1 .left (e ∙ sym (c .before .before .slot .ensures))
 
-  fits : (c .number .result * size .block-size .result + size .block-size .result ≤ length (start .args .proof .now)) × (c .number .result * size .block-size .result + size .block-size .result ≤ 28672)
+  fits : (c .number .result * size .block-size .result + size .block-size .result ≤ length (start .args .proof .now)) × (c .number .result * size .block-size .result + size .block-size .result ≤ 7 * 2 ^ maxDim)
   fits =
       let a = start .args in
       let p = start .pre in

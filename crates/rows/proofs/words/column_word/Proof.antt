@@ -7,6 +7,7 @@ use lib.ListN.{length, getD, replicate, length-replicate}
 use lib.Pow.{pow-mono}
 use borrow.Author.Needs.{needs}
 use Rattle.lists.specs.Filled.{Filled, filled-none, filled-front, filled-take}
+use Rattle.space.specs.Sizes.{maxDim, maxLine, maxColumn}
 use Rattle.proximity.specs.Dim.{half, colDim}
 use Rattle.proximity.specs.Proof.{row}
 use Rattle.proximity.specs.Subspaces.{pow-four, pow-eight}
@@ -14,10 +15,10 @@ use Rattle.rows.proofs.words.column_word.Statement.{statement}
 use Rattle.rows.proofs.words.column_word.Tie as tie
 
 abbrev zeros : List ℕ
-zeros = replicate {A = ℕ} 512 0
+zeros = replicate {A = ℕ} maxLine 0
 
-length-zeros : length zeros ≡ 512
-length-zeros = length-replicate {A = ℕ} 512 0
+length-zeros : length zeros ≡ maxLine
+length-zeros = length-replicate {A = ℕ} maxLine 0
 
 abbrev Inv-loop : tie.InvT-loop
 Inv-loop k word proof a rows out₀ r₀ out r = (rows ≡ 2 ^ colDim k) × (r ≤ rows) × Filled 0 r (λ (r : ℕ). getD (row k word proof r) a 0) zeros out
@@ -41,8 +42,8 @@ module _ (c : tie.In-loop Inv-loop μ-loop) where
   abbrev k : ℕ
   k = start .args .k
 
-  few : 2 ^ colDim k ≤ 64
-  few = pow-mono {j = 6} (omega (arith, start .pre .1))
+  few : 2 ^ colDim k ≤ maxColumn
+  few = pow-mono {j = colDim maxDim} (omega (arith, start .pre .1))
 
   inside : c .before .loop .r < 2 ^ colDim k
   inside = omega (arith, c .loop-test .taken, c .before .loop .inv .0)
@@ -75,7 +76,7 @@ returns c =
     let s = here .before .before .before .before .before in
     let a = s .args in
     let last : here .loop .r ≡ 2 ^ colDim (a .k) = omega (arith, here .loop .inv .0) in
-    let few′ : 2 ^ colDim (a .k) ≤ 64 = pow-mono {j = 6} (omega (arith, s .pre .1)) in
+    let few′ : 2 ^ colDim (a .k) ≤ maxColumn = pow-mono {j = colDim maxDim} (omega (arith, s .pre .1)) in
     let f = here .loop .inv .2 in (
       f .kept ∙ length-zeros,
       filled-take (omega (arith, length-zeros)) (subst (λ (n : ℕ). Filled 0 n (λ (r : ℕ). getD (row (a .k) (a .word .now) (a .proof .now) r) (a .a) 0) zeros (here .loop .out)) last f),

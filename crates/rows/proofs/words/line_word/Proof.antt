@@ -2,6 +2,7 @@
 use mathlib.Core.Path.{_≡_, sym, subst}
 use Prim.Native.Nat.{_^_}
 use lib.ListN.{length, take}
+use Rattle.space.specs.Sizes.{maxLine}
 use Rattle.proximity.specs.declared.Line.{Line}
 use Rattle.proximity.specs.ByLine.{InRange, lineDim, lineWord}
 use borrow.Author.Needs.{needs}
@@ -29,13 +30,13 @@ column-word-requires c κs =
 returns : tie.Need-returns
 returns c =
     let a = c .before .before .before .before .before .before .args in
-    subst (λ (l : Line). (length (c .row-word .result) ≡ 512) × (take (2 ^ lineDim (a .k) l) (c .row-word .result) ≡ lineWord (a .k) (a .word .now) (a .proof .now) l))
+    subst (λ (l : Line). (length (c .row-word .result) ≡ maxLine) × (take (2 ^ lineDim (a .k) l) (c .row-word .result) ≡ lineWord (a .k) (a .word .now) (a .proof .now) l))
     (sym (c .before .before .line .given .1)) (c .row-word .ensures)
 
 returns-2 : tie.Need-returns-2
 returns-2 c =
     let a = c .before .before .before .before .before .before .args in
-    subst (λ (l : Line). (length (c .column-word .result) ≡ 512) × (take (2 ^ lineDim (a .k) l) (c .column-word .result) ≡ lineWord (a .k) (a .word .now) (a .proof .now) l))
+    subst (λ (l : Line). (length (c .column-word .result) ≡ maxLine) × (take (2 ^ lineDim (a .k) l) (c .column-word .result) ≡ lineWord (a .k) (a .word .now) (a .proof .now) l))
     (sym (c .before .before .line2 .given .1)) (c .column-word .ensures)
 
 pub line-word-spec : {M : Type 1} → statement M

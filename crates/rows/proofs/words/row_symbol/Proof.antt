@@ -6,6 +6,7 @@ use native.Mathlib.Omega.{arith}
 use native.Mathlib.Nat.{mod-lt}
 use lib.ListN.{length, getD}
 use lib.Pow.{pow-pos, pow-mono}
+use Rattle.space.specs.Sizes.{maxDim}
 use Rattle.proximity.specs.Dim.{half}
 use Rattle.rows.proofs.Gathering.{of-block, in-block, symbol-of-block}
 use borrow.Author.Needs.{needs}
@@ -22,8 +23,8 @@ module _ (c : tie.After-block-size) where
   pos : 0 < c .block-size .result
   pos = omega (arith, c .block-size .ensures, pow-pos (half (start .args .k)))
 
-  few : 2 ^ half (start .args .k) ≤ 64
-  few = pow-mono {j = 6} (omega (arith, start .pre .0 .1))
+  few : 2 ^ half (start .args .k) ≤ 2 ^ half maxDim
+  few = pow-mono {j = half maxDim} (omega (arith, start .pre .0 .1))
 
 div-block : tie.Need-div-block
 div-block c = pos c

@@ -6,6 +6,7 @@ use lib.ListN.{length, length-replicate}
 use borrow.Author.Needs.{needs}
 use Rattle.lists.specs.Overwrite.{length-cut}
 use Rattle.lists.specs.Tables.{part}
+use Rattle.space.specs.Sizes.{maxLine}
 use Rattle.proximity.specs.Dim.{half}
 use Rattle.proximity.specs.Proof.{block}
 use Rattle.rows.proofs.Gathering.{length-of-block, block-room, gathered-next, gathered-row}
@@ -14,7 +15,7 @@ use Rattle.rows.proofs.words.row_word.Tie as tie
 
 abbrev Inv-loop : tie.InvT-loop
 Inv-loop k word proof r size out₀ j₀ out j =
-    (size ≡ 2 ^ half k) × (j ≤ 8) × ((length out ≡ 512) × ((i : ℕ) → i < j → part (2 ^ half k) i out ≡ block k word proof r i))
+    (size ≡ 2 ^ half k) × (j ≤ 8) × ((length out ≡ maxLine) × ((i : ℕ) → i < j → part (2 ^ half k) i out ≡ block k word proof r i))
 
 abbrev μ-loop : tie.MeasureT-loop
 μ-loop k word proof r size out₀ j₀ out j = 8 - j
@@ -27,7 +28,7 @@ no-symbols-requires c κs = search needs
 
 loop-holds : tie.Need-loop-holds Inv-loop μ-loop
 loop-holds c =
-    (c .before .block-size .ensures, omega arith, (ap length (c .no-symbols .ensures) ∙ length-replicate {A = ℕ} 512 0, λ i h. absurd (omega arith)))
+    (c .before .block-size .ensures, omega arith, (ap length (c .no-symbols .ensures) ∙ length-replicate {A = ℕ} maxLine 0, λ i h. absurd (omega arith)))
 
 module _ (c : tie.In-loop Inv-loop μ-loop) where
   abbrev size : tie.After-block-size Inv-loop μ-loop
@@ -36,7 +37,7 @@ module _ (c : tie.In-loop Inv-loop μ-loop) where
   abbrev start : tie.Start Inv-loop μ-loop
   start = size .before .before .before
 
-  room : c .before .loop .j * size .block-size .result + size .block-size .result ≤ 512
+  room : c .before .loop .j * size .block-size .result + size .block-size .result ≤ maxLine
   room =
       let a = start .args in
       let p = start .pre in
@@ -107,7 +108,7 @@ returns c =
     let a = s .args in
     let p = s .pre in
     let last : l .j ≡ 8 = omega arith in
-    let g : (length (l .out) ≡ 512) × ((i : ℕ) → i < 8 → part (2 ^ half (a .k)) i (l .out) ≡ block (a .k) (a .word .now) (a .proof .now) (a .r) i) = (l .inv .2 .0, λ i h. l .inv .2 .1 i (omega arith)) in
+    let g : (length (l .out) ≡ maxLine) × ((i : ℕ) → i < 8 → part (2 ^ half (a .k)) i (l .out) ≡ block (a .k) (a .word .now) (a .proof .now) (a .r) i) = (l .inv .2 .0, λ i h. l .inv .2 .1 i (omega arith)) in
     (l .inv .2 .0, gathered-row (a .k) (p .1) (a .word .now) (a .proof .now) (p .2) (p .3) (a .r) (p .4) (z .block-size .result) (z .block-size .ensures) (l .out) g)
 
 pub row-word-spec : {M : Type 1} → statement M

@@ -6,6 +6,7 @@ use borrow.Author.Needs.{needs}
 use lib.ListN.{length, take, drop}
 use Rattle.lists.specs.Overwrite.{length-cut}
 use Rattle.lists.specs.Tables.{part-fits}
+use Rattle.space.specs.Sizes.{laneCells}
 use Rattle.transform.specs.Spans.{SpanLanes}
 use Rattle.transform.proofs.Layers.{power}
 use Rattle.transform.proofs.SpanLists.{lanes-none, lanes-next}
@@ -40,7 +41,7 @@ module _ (c : tie.In-loop Inv-loop μ-loop) where
   size : n ≡ 2 ^ start .args .c
   size = c .before .loop .inv .1
 
-  inside : c .before .loop .j * n + n ≤ 384
+  inside : c .before .loop .j * n + n ≤ laneCells
   inside = omega (arith, part-fits {i = c .before .loop .j} {n = start .args .m} n (omega arith), ap (λ (t : ℕ). start .args .m * t) size, start .pre .0)
 
   length-list : length (take (c .before .loop .j * n + n - c .before .loop .j * n) (drop (c .before .loop .j * n) (c .before .loop .lanes))) ≡ n

@@ -5,18 +5,19 @@ use native.Mathlib.Omega.{arith}
 use lib.ListN.{getD}
 use lib.Pow.{pow-mono}
 use borrow.Author.Needs.{needs}
+use Rattle.space.specs.Sizes.{maxDim, maxColumn}
 use Rattle.lists.specs.Filled.{Filled, filled-none, filled-front, filled-take}
 use Rattle.proximity.specs.Dim.{half, colDim}
 use Rattle.proximity.specs.Proof.{row}
 use Rattle.proximity.specs.Subspaces.{pow-four, pow-eight}
-use Rattle.verifier.specs.Parts.{joined, noSymbols}
-use Rattle.verifier.proofs.Laws.{length-no-symbols}
+use Rattle.verifier.specs.Parts.{joined, noColumn}
+use Rattle.verifier.proofs.Laws.{length-no-column}
 use Rattle.verifier.proofs.gather.column.Statement.{statement}
 use Rattle.verifier.proofs.gather.column.Tie as tie
 
 abbrev Inv-loop : tie.InvT-loop
 Inv-loop near far slot proof k a rows out₀ r₀ out r =
-    (rows ≡ 2 ^ colDim k) × (r ≤ rows) × Filled 0 r (λ (r : ℕ). getD (row k (joined near far slot) proof r) a 0) noSymbols out
+    (rows ≡ 2 ^ colDim k) × (r ≤ rows) × Filled 0 r (λ (r : ℕ). getD (row k (joined near far slot) proof r) a 0) noColumn out
 
 abbrev μ-loop : tie.MeasureT-loop
 μ-loop near far slot proof k a rows out₀ r₀ out r = rows - r
@@ -24,11 +25,11 @@ abbrev μ-loop : tie.MeasureT-loop
 rows-requires : tie.Need-rows-requires Inv-loop μ-loop
 rows-requires c κs = search needs
 
-no-symbols-requires : tie.Need-no-symbols-requires Inv-loop μ-loop
-no-symbols-requires c κs = search needs
+no-column-requires : tie.Need-no-column-requires Inv-loop μ-loop
+no-column-requires c κs = search needs
 
 loop-holds : tie.Need-loop-holds Inv-loop μ-loop
-loop-holds c = (c .before .rows .ensures, omega arith, subst (Filled 0 0 _ noSymbols) (sym (c .no-symbols .ensures)) (filled-none 0 _ noSymbols))
+loop-holds c = (c .before .rows .ensures, omega arith, subst (Filled 0 0 _ noColumn) (sym (c .no-column .ensures)) (filled-none 0 _ noColumn))
 
 module _ (c : tie.In-loop Inv-loop μ-loop) where
   abbrev start : tie.Start Inv-loop μ-loop
@@ -37,8 +38,8 @@ module _ (c : tie.In-loop Inv-loop μ-loop) where
   abbrev k : ℕ
   k = start .args .k
 
-  few : 2 ^ colDim k ≤ 64
-  few = pow-mono {j = 6} (omega (arith, start .pre .3))
+  few : 2 ^ colDim k ≤ maxColumn
+  few = pow-mono {j = colDim maxDim} (omega (arith, start .pre .3))
 
   inside : c .before .loop .r < 2 ^ colDim k
   inside = omega (arith, c .loop-test .taken, c .before .loop .inv .0)
@@ -63,18 +64,18 @@ loop-less c = omega arith
 loop-again : tie.Need-loop-again Inv-loop μ-loop
 loop-again c =
     let here = c .before .before in
-    (here .loop .inv .0, omega arith, filled-front (c .row-symbol .result) (omega (arith, few (c .before), inside (c .before), length-no-symbols)) (c .row-symbol .ensures) (here .loop .inv .2))
+    (here .loop .inv .0, omega arith, filled-front (c .row-symbol .result) (omega (arith, few (c .before), inside (c .before), length-no-column)) (c .row-symbol .ensures) (here .loop .inv .2))
 
 returns : tie.Need-returns Inv-loop μ-loop
 returns c =
     let here = c .before in
     let s = here .before .before .before .before .before .before in
     let last : here .loop .r ≡ 2 ^ colDim (s .args .k) = omega (arith, here .loop .inv .0) in
-    let few′ : 2 ^ colDim (s .args .k) ≤ 64 = pow-mono {j = 6} (omega (arith, s .pre .3)) in
+    let few′ : 2 ^ colDim (s .args .k) ≤ maxColumn = pow-mono {j = colDim maxDim} (omega (arith, s .pre .3)) in
     let f = here .loop .inv .2 in (
-      f .kept ∙ length-no-symbols,
-      filled-take (omega (arith, length-no-symbols))
-          (subst (λ (n : ℕ). Filled 0 n (λ (r : ℕ). getD (row (s .args .k) (joined (s .args .near .now) (s .args .far .now) (s .args .slot)) (s .args .proof .now) r) (s .args .a) 0) noSymbols (here .loop .out)) last f),
+      f .kept ∙ length-no-column,
+      filled-take (omega (arith, length-no-column))
+          (subst (λ (n : ℕ). Filled 0 n (λ (r : ℕ). getD (row (s .args .k) (joined (s .args .near .now) (s .args .far .now) (s .args .slot)) (s .args .proof .now) r) (s .args .a) 0) noColumn (here .loop .out)) last f),
     )
 
 pub column-spec : {M : Type 1} → statement M
@@ -84,7 +85,7 @@ column-spec =
     Inv-loop
     μ-loop
     rows-requires
-    no-symbols-requires
+    no-column-requires
     loop-holds
     row-symbol-requires
     mul-out

@@ -7,6 +7,7 @@ use lib.ListN.{length, take}
 use lib.Pow.{pow-mono}
 use lib.Seq.{length-take-le}
 use borrow.Author.Needs.{needs}
+use Rattle.space.specs.Sizes.{maxDim, maxColumn}
 use Rattle.lists.specs.Tables.{length-tab}
 use Rattle.field.specs.Symbols.{symbols}
 use Rattle.transform.specs.Slices.{Transposed}
@@ -201,13 +202,13 @@ rows-requires t c κs = space t (c .before .before .before .before .before .befo
 array-share-prefix-read : (t : ℕ) → check-parts-lts.Need-array-share-prefix-read (claims t) (at t) check-parts.Post
 array-share-prefix-read t c =
     let s = c .before .before .before .before .before .before .before .before .before .before .before .before .before .before in
-    let few : 2 ^ colDim (s .args .k) ≤ 64 = pow-mono {j = 6} (omega (arith, space t s .high)) in
+    let few : 2 ^ colDim (s .args .k) ≤ maxColumn = pow-mono {j = colDim maxDim} (omega (arith, space t s .high)) in
     omega (arith, c .rows .ensures, c .before .column .ensures .0)
 
 slice-aggregate-whole : (t : ℕ) → check-parts-lts.Need-slice-aggregate-whole (claims t) (at t) check-parts.Post
 slice-aggregate-whole t c =
     let s = c .before .before .before .before .before .before .before .before .before .before .before .before .before .before .before in
-    let few : 2 ^ colDim (s .args .k) ≤ 64 = pow-mono {j = 6} (omega (arith, space t s .high)) in
+    let few : 2 ^ colDim (s .args .k) ≤ maxColumn = pow-mono {j = colDim maxDim} (omega (arith, space t s .high)) in
     sym (length-take-le (c .before .rows .result) (c .before .before .column .result) (omega (arith, c .before .rows .ensures, c .before .before .column .ensures .0)))
 
 -- the column arm: the column's word is plain
