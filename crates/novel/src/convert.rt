@@ -18,6 +18,9 @@ ghost use Rattle.novel.specs.Scales.{Scales, zeroRoom};
 // The table of the subspace polynomials: a row of MAX places for each.
 const TABLE: usize = MAX * MAX;
 
+// From a place of the table to the next place of the next row.
+const DIAGONAL: usize = MAX + 1;
+
 // Zeros for half of the coefficients of the longest word.
 pub fn none() -> [u16; MAX_COEFFICIENTS / 2]
     ensures { λ r. ⌜ Zeros r ⌝ }
@@ -49,11 +52,11 @@ pub fn table(f: Field, steps: &[u16; 16], count: usize) -> [u16; TABLE]
     t[0] = 1;
     t[MAX] = field::products::mul(f, steps[0], 1);
     let mut p = 0;
-    while p + (MAX + 1) < MAX * count {
+    while p + DIAGONAL < MAX * count {
         let w = t[p];
         let s = steps[(p + 1) / MAX];
         let a = field::products::mul(f, s, t[p + 1]);
-        t[p + (MAX + 1)] = a ^ field::products::mul(f, w, w);
+        t[p + DIAGONAL] = a ^ field::products::mul(f, w, w);
         p += 1;
     }
     t
