@@ -116,13 +116,13 @@ module _ {K : Ops} (F : IsField K) where
 
   -- ---- the carry out of the last digit is 0
 
-  getD-addP : (p q : List ℕ) (i : ℕ) → getD (addP K p q) i 0 ≡ getD p i 0 ⊕ getD q i 0
+  pub getD-addP : (p q : List ℕ) (i : ℕ) → getD (addP K p q) i 0 ≡ getD p i 0 ⊕ getD q i 0
   getD-addP [] q i = sym (0-⊕ F (getD q i 0))
   getD-addP (c ∷ p) [] i = sym (⊕-0 F (getD (c ∷ p) i 0))
   getD-addP (c ∷ p) (d ∷ q) zero = refl
   getD-addP (c ∷ p) (d ∷ q) (suc i) = getD-addP p q i
 
-  getD-scaleP : (a : ℕ) (p : List ℕ) (i : ℕ) → getD (scaleP K a p) i 0 ≡ a ⊗ getD p i 0
+  pub getD-scaleP : (a : ℕ) (p : List ℕ) (i : ℕ) → getD (scaleP K a p) i 0 ≡ a ⊗ getD p i 0
   getD-scaleP a [] i = sym (⊗-0 F a)
   getD-scaleP a (c ∷ p) zero = refl
   getD-scaleP a (c ∷ p) (suc i) = getD-scaleP a p i

@@ -10,9 +10,11 @@ pub mod Subspaces
 pub mod TwoVariables
 pub mod BaseDigits
 pub mod Proposition
+pub mod Formal
 pub mod Grid
 pub mod Layout
 pub mod Lines
+pub mod Unused
 pub mod Honest
 pub mod AllCoins
 pub mod Reads
