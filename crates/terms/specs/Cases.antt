@@ -2,7 +2,8 @@
 use mathlib.Core.List.{List, [], _∷_}
 use Rattle.field.specs.Cases.{P1, p1, P2, p2, P3, p3}
 use Rattle.poly.specs.Cases.{P4, p4}
-use Rattle.proximity.specs.Cases.{P5, p5, P6, p6, P7, p7, P8, p8, P9, p9}
+use Rattle.proximity.specs.Cases.{P7, p7, P8, p8, P9, p9}
+use Rattle.terms.specs.CaseVerdicts.{P5, p5, P6, p6}
 
 -- each sentence of the list holds
 abbrev pub Every : List (Type 0) → Type 0

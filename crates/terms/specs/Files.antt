@@ -23,7 +23,8 @@ use Rattle.stored.specs.Passed.{length-basis}
 use Rattle.stored.specs.Reader.{fileChecks}
 use Rattle.stored.specs.Whole.{Delivery, accepted-delivery}
 use Rattle.host.specs.Answer.{codeOf, readsAfter, HostAnswer}
-use Rattle.terms.specs.Answer.{answered-one, same-answer}
+use Rattle.terms.specs.Answer.{same-answer}
+use Rattle.terms.specs.OneAnswer.{one-file-answer}
 use Rattle.terms.specs.Terms.{AcceptedAtAllCoins, PairOfAPolynomial, accepted-exactly}
 
 -- ---- stored files
@@ -60,10 +61,9 @@ module _ (f g : List ℕ) (pf : Passes (fileChecks f)) (pg : Passes (fileChecks 
 module _ (f : List ℕ) (coin before : ℕ) where
   -- The call gives one answer and leaves one number of reads.
   pub one-host-answer : (after r after′ r′ : ℕ) → HostAnswer f coin before after r → HostAnswer f coin before after′ r′ → (after ≡ after′) × (r ≡ r′)
-  one-host-answer after r after′ r′ (u, a, e, h) (v, b, e′, h′) = (h ∙ ap (readsAfter before) same ∙ sym h′, e ∙ ap codeOf same ∙ sym e′)
-    where
-      same : u ≡ v
-      same = answered-one (coinChecks f coin) (symbols (modulusIn f)) (dimIn f) (basisIn f) (wordIn f) (proofIn f) coin u v a b
+  one-host-answer after r after′ r′ (u, a, e, h) (v, b, e′, h′) =
+      let same = one-file-answer f coin u v a b in
+      (h ∙ ap (readsAfter before) same ∙ sym h′, e ∙ ap codeOf same ∙ sym e′)
 
   -- The number tells the verdicts and the refusals apart: 0 accepts, 100 rejects, and a refusal has a number from 1 to 12.
   abbrev pub ToldApart : ℕ → ℕ → Type 0

@@ -1,11 +1,16 @@
 -- The printed sentences, each a theorem about what the calls' contracts say.
 pub mod Refusals
 pub mod Answer
+pub mod OneAnswer
 pub mod Outcomes
-pub mod Cases
 pub mod Construction
+pub mod Geometry
 pub mod Agreement
 pub mod Terms
+pub mod UnusedBits
+pub mod Settings
+pub mod CaseVerdicts
+pub mod Cases
 pub mod Files
 pub mod Counts
 pub mod Deliveries

@@ -1,17 +1,28 @@
 -- Sentence 1, what a contract can say of it: bad input gets one of the listed numbers, by the order of checks, and a refused call leaves its
 -- output as it came, and scratch as it came or all zeros. That no call leaves a lent buffer, loses a bit or runs without end is what it
 -- means that each function is proved, with no precondition on the public calls.
-use mathlib.Core.Path.{_≡_, refl}
+use mathlib.Core.Path.{_≡_, refl, ap}
+use mathlib.Core.Logic.{inl, inr}
 use mathlib.Core.List.{List}
 use Prim.Native.Nat.{ℕ, _≤_, _<_}
 use native.Mathlib.Omega.{arith}
 use lib.ListN.{length}
 use Rattle.lists.specs.Answers.{Checks, Answers, Passes, answers-one, not-refused}
 use Rattle.lists.specs.Calls.{zeros, RefusedWith, Within, answer-within}
+use Rattle.field.specs.Calls as field
+use Rattle.field.specs.declared.Value.the-variants as value
+use Rattle.space.specs.Setting.{settingChecks, noSetting, Settled}
+use Rattle.space.specs.declared.Checked.{Checked}
 use Rattle.verifier.specs.Checker as checker
 use Rattle.verifier.specs.declared.Verdict.the-variants as verdict
+use Rattle.stored.specs.Reader as reader
+use Rattle.stored.specs.Reader.{prefixChecks, fileChecks, readOf, noRead}
+use Rattle.stored.specs.declared.Reading.{Reading}
 use Rattle.stored.specs.Writer.{writerChecks, Wrote}
 use Rattle.stored.specs.declared.Outcome.the-variants as written
+use Rattle.coins.specs.Totals as counter
+use Rattle.coins.specs.Totals.{countChecks, noCounts}
+use Rattle.coins.specs.declared.Counts.{Counts}
 use Rattle.codec.specs.Calls.{encodeChecks, decodeChecks, Encoded, Decoded, Told}
 use Rattle.codec.specs.declared.Outcome.{Outcome}
 use Rattle.codec.specs.declared.Outcome.the-variants.{Done, Refused}
@@ -61,6 +72,33 @@ module _ (m : ℕ) (bs p old new scratch left : List ℕ) where
   proving-done = done (proveChecks m bs p (length old) (length scratch)) old new scratch left _
 
 -- ---- the other calls
+
+-- sum and product, of which v is the value
+pub refused-value : (m a b v n : ℕ) → field.Told (field.fieldChecks m a b) v (value.Refused n) → (0 < n) × (n ≤ 9)
+refused-value m a b v n (l, r) = (l, answer-within (field.fieldChecks m a b) (search (arith) depth 30) r)
+
+-- the check of a setting, which hands back no setting with a number
+pub refused-setting : (m : ℕ) (bs : List ℕ) (c : Checked) → Settled m bs c → 0 < c .refusal → (c .refusal ≤ 5) × (c .setting ≡ noSetting)
+refused-setting m bs c (inl (p, z, e)) h = absurd (omega arith)
+refused-setting m bs c (inr ((l, a), e)) h = (answer-within (settingChecks m bs) (search (arith) depth 30) a, e)
+
+-- the readers of stored files, which hand back the number alone
+module _ (f : List ℕ) (r : Reading) where
+  refused-by : (cs : Checks) → Within 12 cs → reader.Told cs f r → 0 < r .refusal → (r .refusal ≤ 12) × (r ≡ noRead (r .refusal))
+  unfolding readOf
+  refused-by cs w (inl (p, e)) h = let z : r .refusal ≡ 0 = ap (λ (x : Reading). x .refusal) e in absurd (omega arith)
+  refused-by cs w (inr ((l, a), e)) h = (answer-within cs w a, e)
+
+  pub refused-reading : reader.Told (fileChecks f) f r → 0 < r .refusal → (r .refusal ≤ 12) × (r ≡ noRead (r .refusal))
+  refused-reading = refused-by (fileChecks f) (search (arith) depth 40)
+
+  pub refused-prefix : reader.Told (prefixChecks f) f r → 0 < r .refusal → (r .refusal ≤ 12) × (r ≡ noRead (r .refusal))
+  refused-prefix = refused-by (prefixChecks f) (search (arith) depth 40)
+
+-- the coin counter, which hands back the number alone
+pub refused-counting : (f : List ℕ) (c : Counts) → counter.Told f c → 0 < c .refusal → (c .refusal ≤ 12) × (c ≡ noCounts (c .refusal))
+refused-counting f c (inl (p, z, t)) h = absurd (omega arith)
+refused-counting f c (inr ((l, a), e)) h = (answer-within (countChecks f) (search (arith) depth 40) a, e)
 
 -- the checker, which writes nothing
 pub refused-check : (m : ℕ) (bs w π : List ℕ) (coin n : ℕ) → checker.Told m bs w π coin (verdict.Refused n) → (0 < n) × (n ≤ 9)

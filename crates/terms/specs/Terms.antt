@@ -2,10 +2,10 @@
 -- verifier's `check` for its answer v on the modulus m, the basis bs, the word w, the proof π and the coin. Sentence 2 for the other calls:
 -- Agreement.antt; stored files and the call from C: Files.antt; the coin counter: Counts.antt; from coefficients to a stored file:
 -- Deliveries.antt.
-use mathlib.Core.Path.{_≡_, refl}
+use mathlib.Core.Path.{_≡_, refl, subst}
 use mathlib.Core.Logic.{_⊎_, _↔_, inl, inr}
 use mathlib.Core.List.{List, _++_, map}
-use Prim.Native.Nat.{ℕ, _*_, _^_, _≤_, _<_}
+use Prim.Native.Nat.{ℕ, _^_, _≤_, _<_}
 use native.Mathlib.Omega.{arith}
 use lib.ListN.{length}
 use Rattle.lists.specs.All.{All}
@@ -26,11 +26,13 @@ use Rattle.verifier.specs.declared.Verdict.{Verdict}
 use Rattle.verifier.specs.declared.Verdict.the-variants.{Accept, Reject}
 use Rattle.codec.specs.Calls.{wordChecks}
 use Rattle.codec.specs.RoundTrip.{word-passes}
+use Rattle.codec.specs.declared.Outcome.{Outcome}
 use Rattle.codec.specs.declared.Outcome.the-variants.{Done}
 use Rattle.prover.specs.Calls.{lengthChecks, Proven}
 use Rattle.codec.specs.Lengths.{lengths-right}
-use Rattle.terms.specs.Answer.{answered-one, same-answer}
 use Rattle.codec.specs.Scratch.{scratchFor}
+use Rattle.terms.specs.Agreement.{one-proving}
+use Rattle.terms.specs.Answer.{answered-one, same-answer}
 
 -- ---- the checker
 
@@ -86,6 +88,15 @@ module _ (m : ℕ) (bs : List ℕ) (s : Sound m bs) (w π : List ℕ) (lw : leng
             right = (P, H);
             cleared = refl;
           }
+
+  -- However the prover's call on the word ends (its answer u, the proof and the scratch that it leaves): the pair is accepted at all coins
+  -- exactly where that call is done and has left this proof.
+  pub accepted-exactly-proven : (old new scratch left : List ℕ) (u : Outcome) → length old ≡ S (length bs) → scratchFor (length bs) ≤ length scratch
+      → Proven m bs w old new scratch left u → AcceptedAtAllCoins ↔ ((u ≡ Done) × (new ≡ π))
+  accepted-exactly-proven old new scratch left u lo ls p = (
+    (λ f. let e = one-proving m bs w old new π scratch left (zeros (length scratch)) u Done p (accepted-exactly-written old scratch lo ls .0 f) in (e .answer, e .output)),
+    λ (d, e). accepted-exactly .1 (subst (λ (x : List ℕ). Proven m bs w old x scratch left Done) e (subst (Proven m bs w old new scratch left) d p) .right),
+  )
 
 -- Sentence 3, second part: a coin's positions follow from k and the coin alone (`positions`), they are at most 64,
 pub at-most-64-reads : (k coin : ℕ) → length (positions (dim k) coin) ≤ 64

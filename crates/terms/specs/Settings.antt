@@ -1,0 +1,70 @@
+-- Sound settings, and pairs that are accepted: the theorems of this crate are not about nothing.
+use mathlib.Core.Path.{_≡_, refl, sym, ap, _∙_}
+use mathlib.Core.List.{List, [], _∷_}
+use Prim.Native.Nat.{ℕ, _^_, _-_, _≤_, _<_}
+use native.Mathlib.Omega.{arith}
+use lib.Dec.{T}
+use lib.ListN.{length, getD}
+use Rattle.lists.specs.All.{All, Below}
+use Rattle.lists.specs.Tables.{tab, getD-tab, length-tab}
+use Rattle.field.specs.Binary.{_⊕_, degree, irreducible?}
+use Rattle.field.specs.Decide.{irreducible-of-test}
+use Rattle.field.specs.Symbols.{symbols}
+use Rattle.poly.specs.Codeword.{wordOf}
+use Rattle.poly.specs.Poly.{eval}
+use Rattle.poly.specs.Span.{elem}
+use Rattle.space.specs.Sizes.{maxDim}
+use Rattle.space.specs.Sound.{Sound}
+use Rattle.proximity.specs.Cases.{basis-8, basis-16}
+use Rattle.proximity.specs.Dim.{dim, S}
+use Rattle.proximity.specs.Layout.{length-proof}
+use Rattle.proximity.specs.Proof.{proofOf}
+use Rattle.terms.specs.Terms.{AcceptedAtAllCoins, accepted-exactly}
+
+-- a setting in which element i is i, for an irreducible modulus
+counting-sound : (m : ℕ) (bs : List ℕ) → 8 ≤ m → m < 131072 → T (irreducible? m) → 3 ≤ length bs → length bs ≤ maxDim → Below (2 ^ degree m) bs
+    → tab (2 ^ length bs) (elem (symbols m) bs) ≡ tab (2 ^ length bs) (λ i. i) → Sound m bs
+counting-sound m bs lm hm t lb hb e counts =
+    record {
+      modulus = record { low = lm; high = hm; irreducible = irreducible-of-test m t };
+      low = lb;
+      high = hb;
+      basis =
+          record {
+            count = refl;
+            elements = e;
+            independent =
+                λ i h z. sym (getD-tab (2 ^ length bs) (λ j. j) i 0 h) ∙ ap (λ (l : List ℕ). getD l i 0) (sym counts) ∙ getD-tab (2 ^ length bs) (elem (symbols m) bs) i 0 h ∙ z;
+          };
+    }
+
+-- The setting of P5: modulus 11 with 1, 2, 4.
+pub sound-11 : Sound 11 basis-8
+unfolding irreducible? degree _⊕_
+sound-11 = counting-sound 11 basis-8 (omega arith) (omega arith) tt (omega arith) (omega arith) (omega arith, (omega arith, (omega arith, tt))) refl
+
+-- The setting of P6: modulus 19 with 1, 2, 4, 8.
+pub sound-19 : Sound 19 basis-16
+unfolding irreducible? degree _⊕_
+sound-19 = counting-sound 19 basis-16 (omega arith) (omega arith) tt (omega arith) (omega arith) (omega arith, (omega arith, (omega arith, (omega arith, tt)))) refl
+
+abbrev pub basis-128 : List ℕ
+basis-128 = 1 ∷ 2 ∷ 4 ∷ 8 ∷ 16 ∷ 32 ∷ 64 ∷ []
+
+-- A setting with rows and columns: modulus 283, the field of FIPS 197, with 1, 2, .., 64.
+pub sound-283 : Sound 283 basis-128
+unfolding irreducible? degree _⊕_
+sound-283 =
+    counting-sound 283 basis-128 (omega arith) (omega arith) tt (omega arith) (omega arith)
+    (omega arith, (omega arith, (omega arith, (omega arith, (omega arith, (omega arith, (omega arith, tt))))))) refl
+
+-- In every sound setting each polynomial of degree below n/8 has a pair that is accepted at all coins: its word and the proof laid out for it.
+module _ (m : ℕ) (bs : List ℕ) (s : Sound m bs) (P : List ℕ) (l : length P ≡ 2 ^ (length bs - 3)) (e : All (symbols m .Sym) P) where
+  pub word-length : length (wordOf (symbols m) (length bs) bs P) ≡ 2 ^ length bs
+  word-length = length-tab (2 ^ length bs) (λ i. eval (symbols m) P (elem (symbols m) bs i))
+
+  pub proof-length : length (proofOf (symbols m) (dim (length bs)) bs P) ≡ S (length bs)
+  proof-length = length-proof (symbols m) (length bs) bs P
+
+  pub accepted-pair : AcceptedAtAllCoins m bs s (wordOf (symbols m) (length bs) bs P) (proofOf (symbols m) (dim (length bs)) bs P) word-length proof-length
+  accepted-pair = accepted-exactly m bs s _ _ word-length proof-length .1 (P, record { count = l; elements = e; word = refl; proof = refl })
