@@ -95,7 +95,19 @@ module _ {ℓ} {A : Type ℓ} (k coin other : ℕ) (f g : ℕ → ℕ → A) (us
           ∙ colsAlike _ (bitsLeft k other) (ap (λ (t : ℕ). t % 2 ^ usedCols (bitsLeft k coin)) b′ ∙ a .rest ∙ ap (λ (t : ℕ). t % 2 ^ usedCols (bitsLeft k coin)) (sym b))
           ∙ ap (λ (x : Line). At x (bitsLeft k coin)) (sym l)
 
--- Coins alike in the used bits have the same positions
+-- ---- two coins alike in the used bits
+
+-- Each uses as many bits as the other
+used-alike : {k : ℕ} (d : Dim k) (coin other : ℕ) → SameUsed d coin other → used d other ≡ used d coin
+used-alike (leaf s) coin other e = refl
+used-alike (node {k = k} s rows cols) coin other e =
+    follows k coin other (λ r i. 1 + (colDim k + used rows i)) (λ a i. 1 + (half k + 2 + used cols i)) (used rows) (used cols)
+    (λ r i h. ap (λ (n : ℕ). 1 + (colDim k + n)) (used-alike rows (bitsLeft k coin) i h)) (λ a i h. ap (λ (n : ℕ). 1 + (half k + 2 + n)) (used-alike cols (bitsLeft k coin) i h)) e
+
+pub same-used-back : {k : ℕ} (d : Dim k) (coin other : ℕ) → SameUsed d coin other → SameUsed d other coin
+same-used-back d coin other e = subst (λ (n : ℕ). coin % 2 ^ n ≡ other % 2 ^ n) (sym (used-alike d coin other e)) (sym e)
+
+-- They have the same positions
 pub unused-positions : {k : ℕ} (d : Dim k) (coin other : ℕ) → SameUsed d coin other → positions d other ≡ positions d coin
 unused-positions (leaf s) coin other e = refl
 unused-positions (node {k = k} s rows cols) coin other e =
