@@ -1,8 +1,10 @@
 /* The proximity proof engine for C: the checker over stored files.
  *
- * A file is lent as a pointer to its bytes and their number. Any bytes may be lent: what is no stored file is refused by a number.
- * The calls read these bytes alone and write nothing but *reads, which must not lie among them. They take no memory and keep
- * nothing, so that several threads may call at once. */
+ * A file is lent as a pointer to its bytes and their number. Any bytes may be lent, at any address: what is no stored file is
+ * refused by a number. `file` may be NULL where `length` is 0. The calls read these bytes alone and write nothing but *reads,
+ * which must not lie among them. They take no memory and keep nothing, so that several threads may call at once.
+ *
+ * Each call checks the whole file, about 0.16 ms at dimension 12: make few calls for each file. */
 #ifndef PROXIMITY_H
 #define PROXIMITY_H
 
@@ -13,23 +15,27 @@
 extern "C" {
 #endif
 
+/* Goes up where a call or a number is added. */
+#define PROXIMITY_VERSION 1
+
 /* The verdicts. */
 #define PROXIMITY_ACCEPT 0u
 #define PROXIMITY_REJECT 100u
 
-/* The refusals. The calls below give 1 to 5, 8, 9, 11 and 12; the other numbers belong to calls on symbols. */
-#define PROXIMITY_MODULUS_RANGE 1u     /* the modulus is below 8 or above 131071 */
-#define PROXIMITY_MODULUS_REDUCIBLE 2u /* the modulus is reducible */
-#define PROXIMITY_BASIS_SIZE 3u        /* the basis has fewer than 3 or more than 12 elements */
-#define PROXIMITY_BASIS_RANGE 4u       /* a basis element is not below 2^l, l being the modulus's degree */
-#define PROXIMITY_BASIS_DEPENDENT 5u   /* the basis is dependent (a zero or a repeat included) */
-#define PROXIMITY_LENGTH 6u            /* a lent word, coefficient list or proof has another length than the setting fixes */
-#define PROXIMITY_SCRATCH 7u           /* the scratch is too short */
-#define PROXIMITY_COIN 8u              /* the coin is not below 2^R */
-#define PROXIMITY_SYMBOL 9u            /* a symbol is not below 2^l */
-#define PROXIMITY_NO_CODEWORD 10u      /* the word given to prover or decoder is not a codeword */
-#define PROXIMITY_CUT 11u              /* the file ends before its last record is whole, or a mark differs */
-#define PROXIMITY_COUNT 12u            /* a stored count is not the one the setting fixes, or bytes follow the last record */
+/* The refusals. The calls below give 1 to 5, 8, 9, 11 and 12; the other numbers belong to calls on symbols. Later versions may
+ * give other numbers: any answer that is no verdict is a refusal. */
+#define PROXIMITY_REFUSED_MODULUS_RANGE 1u     /* the modulus is below 8 or above 131071 */
+#define PROXIMITY_REFUSED_MODULUS_REDUCIBLE 2u /* the modulus is reducible */
+#define PROXIMITY_REFUSED_BASIS_SIZE 3u        /* the basis has fewer than 3 or more than 12 elements */
+#define PROXIMITY_REFUSED_BASIS_RANGE 4u       /* a basis element is not below 2^l, l being the modulus's degree */
+#define PROXIMITY_REFUSED_BASIS_DEPENDENT 5u   /* the basis is dependent (a zero or a repeat included) */
+#define PROXIMITY_REFUSED_LENGTH 6u            /* a lent word, coefficient list or proof has another length than the setting's */
+#define PROXIMITY_REFUSED_SCRATCH 7u           /* the scratch is too short */
+#define PROXIMITY_REFUSED_COIN 8u              /* the coin is not below 2^R */
+#define PROXIMITY_REFUSED_SYMBOL 9u            /* a symbol is not below 2^l */
+#define PROXIMITY_REFUSED_NO_CODEWORD 10u      /* the word given to prover or decoder is not a codeword */
+#define PROXIMITY_REFUSED_CUT 11u              /* the file ends before its last record is whole, or a mark differs */
+#define PROXIMITY_REFUSED_COUNT 12u            /* a stored count is not the one of the setting, or bytes follow the last record */
 
 /* The number of the first check that refuses the file, or 0. */
 uint32_t proximity_file_refusal(const uint8_t *file, size_t length);
@@ -39,7 +45,7 @@ uint32_t proximity_file_refusal(const uint8_t *file, size_t length);
 uint32_t proximity_coin_bits(const uint8_t *file, size_t length);
 
 /* The checker for one coin: PROXIMITY_ACCEPT or PROXIMITY_REJECT, and *reads is the number of symbols read, at most 64; or the
- * number of a refusal (the file's checks, then 8), and *reads is as it came. */
+ * number of a refusal (the file's checks, then 8), and *reads is as it came. `reads` must not be NULL. */
 uint32_t proximity_check_file(const uint8_t *file, size_t length, uint64_t coin, uint32_t *reads);
 
 #ifdef __cplusplus

@@ -19,11 +19,13 @@ static void expect(const char *what, uint32_t got, uint32_t want)
     printf("%s: %" PRIu32 " in place of %" PRIu32 "\n", what, got, want);
 }
 
-/* A copy of exactly this length. */
+/* A copy of exactly this length; of no bytes it may be NULL. */
 static uint8_t *copy_of(const uint8_t *bytes, size_t length)
 {
     uint8_t *file = malloc(length);
 
+    if (length == 0)
+        return file;
     if (file == NULL)
         abort();
     memcpy(file, bytes, length);
@@ -84,7 +86,7 @@ static void accepted_sample(void)
     expect("sample", proximity_file_refusal(file, sizeof sample), 0);
     expect("bits of the sample", proximity_coin_bits(file, sizeof sample), 0);
     answers("sample", file, sizeof sample, 0, PROXIMITY_ACCEPT, 8);
-    answers("sample at coin 1", file, sizeof sample, 1, PROXIMITY_COIN, UNREAD);
+    answers("sample at coin 1", file, sizeof sample, 1, PROXIMITY_REFUSED_COIN, UNREAD);
     for (i = 19; i < 35; i += 2) {
         file[i] = 6;
         answers("sample with one 6", file, sizeof sample, 0, PROXIMITY_REJECT, 8);
@@ -95,18 +97,18 @@ static void accepted_sample(void)
 
 static void refused_settings(void)
 {
-    changed("modulus 7", 2, 7, PROXIMITY_MODULUS_RANGE);
-    changed("modulus 131083", 4, 2, PROXIMITY_MODULUS_RANGE);
-    changed("modulus 15", 2, 15, PROXIMITY_MODULUS_REDUCIBLE);
-    changed("modulus 21", 2, 21, PROXIMITY_MODULUS_REDUCIBLE);
-    changed("no basis", 6, 0, PROXIMITY_BASIS_SIZE);
-    changed("k = 2", 6, 2, PROXIMITY_BASIS_SIZE);
-    changed("k = 13", 6, 13, PROXIMITY_BASIS_SIZE);
-    changed("basis element 8", 11, 8, PROXIMITY_BASIS_RANGE);
-    changed("basis element 260", 12, 1, PROXIMITY_BASIS_RANGE);
-    changed("basis 1, 2, 3", 11, 3, PROXIMITY_BASIS_DEPENDENT);
-    changed("basis 1, 2, 2", 11, 2, PROXIMITY_BASIS_DEPENDENT);
-    changed("basis 0, 2, 4", 7, 0, PROXIMITY_BASIS_DEPENDENT);
+    changed("modulus 7", 2, 7, PROXIMITY_REFUSED_MODULUS_RANGE);
+    changed("modulus 131083", 4, 2, PROXIMITY_REFUSED_MODULUS_RANGE);
+    changed("modulus 15", 2, 15, PROXIMITY_REFUSED_MODULUS_REDUCIBLE);
+    changed("modulus 21", 2, 21, PROXIMITY_REFUSED_MODULUS_REDUCIBLE);
+    changed("no basis", 6, 0, PROXIMITY_REFUSED_BASIS_SIZE);
+    changed("k = 2", 6, 2, PROXIMITY_REFUSED_BASIS_SIZE);
+    changed("k = 13", 6, 13, PROXIMITY_REFUSED_BASIS_SIZE);
+    changed("basis element 8", 11, 8, PROXIMITY_REFUSED_BASIS_RANGE);
+    changed("basis element 260", 12, 1, PROXIMITY_REFUSED_BASIS_RANGE);
+    changed("basis 1, 2, 3", 11, 3, PROXIMITY_REFUSED_BASIS_DEPENDENT);
+    changed("basis 1, 2, 2", 11, 2, PROXIMITY_REFUSED_BASIS_DEPENDENT);
+    changed("basis 0, 2, 4", 7, 0, PROXIMITY_REFUSED_BASIS_DEPENDENT);
 }
 
 static void refused_records(void)
@@ -115,17 +117,17 @@ static void refused_records(void)
     size_t i;
 
     for (i = 0; i < sizeof marks / sizeof *marks; i++)
-        changed("mark", marks[i], sample[marks[i]] ^ 1, PROXIMITY_CUT);
-    changed("7 symbols in the word", 15, 7, PROXIMITY_COUNT);
-    changed("9 symbols in the word", 15, 9, PROXIMITY_COUNT);
-    changed("1 symbol in the proof", 37, 1, PROXIMITY_COUNT);
+        changed("mark", marks[i], sample[marks[i]] ^ 1, PROXIMITY_REFUSED_CUT);
+    changed("7 symbols in the word", 15, 7, PROXIMITY_REFUSED_COUNT);
+    changed("9 symbols in the word", 15, 9, PROXIMITY_REFUSED_COUNT);
+    changed("1 symbol in the proof", 37, 1, PROXIMITY_REFUSED_COUNT);
     for (i = 0; i < 3; i++) {
-        changed("high byte of the word's count", 16 + i, 1, PROXIMITY_COUNT);
-        changed("high byte of the proof's count", 38 + i, 1, PROXIMITY_COUNT);
+        changed("high byte of the word's count", 16 + i, 1, PROXIMITY_REFUSED_COUNT);
+        changed("high byte of the proof's count", 38 + i, 1, PROXIMITY_REFUSED_COUNT);
     }
     for (i = 19; i < 35; i += 2) {
-        changed("symbol 8", i, 8, PROXIMITY_SYMBOL);
-        changed("symbol 261", i + 1, 1, PROXIMITY_SYMBOL);
+        changed("symbol 8", i, 8, PROXIMITY_REFUSED_SYMBOL);
+        changed("symbol 261", i + 1, 1, PROXIMITY_REFUSED_SYMBOL);
     }
 }
 
@@ -136,17 +138,47 @@ static void refused_lengths(void)
     size_t length;
 
     for (length = 0; length < sizeof sample; length++)
-        refused("cut", sample, length, PROXIMITY_CUT);
+        refused("cut", sample, length, PROXIMITY_REFUSED_CUT);
     memcpy(longer, sample, sizeof sample);
-    refused("a byte appended", longer, sizeof longer, PROXIMITY_COUNT);
-    cut_and_changed("modulus 7 cut in the head", 6, 2, 7, PROXIMITY_CUT);
-    cut_and_changed("modulus 7 without a basis", 7, 2, 7, PROXIMITY_MODULUS_RANGE);
-    cut_and_changed("modulus 15 without a basis", 7, 2, 15, PROXIMITY_MODULUS_REDUCIBLE);
-    cut_and_changed("k = 13 without a basis", 7, 6, 13, PROXIMITY_BASIS_SIZE);
-    cut_and_changed("basis element 8 without a word", 13, 11, 8, PROXIMITY_BASIS_RANGE);
-    cut_and_changed("7 symbols, and none there", 19, 15, 7, PROXIMITY_COUNT);
-    cut_and_changed("symbol 8 in a word that is cut", 34, 19, 8, PROXIMITY_CUT);
-    cut_and_changed("symbol 8 without a proof", 35, 19, 8, PROXIMITY_SYMBOL);
+    refused("a byte appended", longer, sizeof longer, PROXIMITY_REFUSED_COUNT);
+    cut_and_changed("modulus 7 cut in the head", 6, 2, 7, PROXIMITY_REFUSED_CUT);
+    cut_and_changed("modulus 7 without a basis", 7, 2, 7, PROXIMITY_REFUSED_MODULUS_RANGE);
+    cut_and_changed("modulus 15 without a basis", 7, 2, 15, PROXIMITY_REFUSED_MODULUS_REDUCIBLE);
+    cut_and_changed("k = 13 without a basis", 7, 6, 13, PROXIMITY_REFUSED_BASIS_SIZE);
+    cut_and_changed("basis element 8 without a word", 13, 11, 8, PROXIMITY_REFUSED_BASIS_RANGE);
+    cut_and_changed("7 symbols, and none there", 19, 15, 7, PROXIMITY_REFUSED_COUNT);
+    cut_and_changed("symbol 8 in a word that is cut", 34, 19, 8, PROXIMITY_REFUSED_CUT);
+    cut_and_changed("symbol 8 without a proof", 35, 19, 8, PROXIMITY_REFUSED_SYMBOL);
+}
+
+/* No bytes at all. */
+static void lent_nowhere(void)
+{
+    expect("NULL", proximity_file_refusal(NULL, 0), PROXIMITY_REFUSED_CUT);
+    expect("bits of NULL", proximity_coin_bits(NULL, 0), 0);
+    answers("NULL", NULL, 0, 0, PROXIMITY_REFUSED_CUT, UNREAD);
+    answers("NULL", NULL, 0, UINT64_MAX, PROXIMITY_REFUSED_CUT, UNREAD);
+}
+
+/* Addresses of every remainder by 8, odd ones among them; the file ends where its allocation does. */
+static void lent_anywhere(void)
+{
+    size_t shift;
+
+    for (shift = 0; shift < 8; shift++) {
+        uint8_t *room = malloc(shift + sizeof sample), *file;
+
+        if (room == NULL)
+            abort();
+        file = room + shift;
+        memcpy(file, sample, sizeof sample);
+        expect("moved file", proximity_file_refusal(file, sizeof sample), 0);
+        answers("moved file", file, sizeof sample, 0, PROXIMITY_ACCEPT, 8);
+        file[33] = 6;
+        answers("moved file with one 6", file, sizeof sample, 0, PROXIMITY_REJECT, 8);
+        expect("moved file, cut", proximity_file_refusal(file, sizeof sample - 1), PROXIMITY_REFUSED_CUT);
+        free(room);
+    }
 }
 
 /* ---- files of zeros, with the basis 1, 2, 4 and so on */
@@ -207,9 +239,9 @@ static void dimension_7(void)
     expect("k = 7", proximity_file_refusal(z.file, z.length), 0);
     expect("bits at k = 7", proximity_coin_bits(z.file, z.length), 6);
     all_coins("zeros", z, 0);
-    answers("coin 64", z.file, z.length, 64, PROXIMITY_COIN, UNREAD);
-    answers("coin 2^32", z.file, z.length, bit(32), PROXIMITY_COIN, UNREAD);
-    answers("coin 2^63", z.file, z.length, bit(63), PROXIMITY_COIN, UNREAD);
+    answers("coin 64", z.file, z.length, 64, PROXIMITY_REFUSED_COIN, UNREAD);
+    answers("coin 2^32", z.file, z.length, bit(32), PROXIMITY_REFUSED_COIN, UNREAD);
+    answers("coin 2^63", z.file, z.length, bit(63), PROXIMITY_REFUSED_COIN, UNREAD);
 
     /* position 0 of the proof is position 8 of row 0, which coins 0 and 32 take, and lies in column 8 */
     z.proof[0] = 1;
@@ -221,12 +253,12 @@ static void dimension_7(void)
     all_coins("word position 32", z, bit(2 * 4) | bit(32 + 2 * 4));
     z.word[2 * 32] = 0;
 
-    refused("k = 7, cut", z.file, z.length - 1, PROXIMITY_CUT);
+    refused("k = 7, cut", z.file, z.length - 1, PROXIMITY_REFUSED_CUT);
     z.proof[2 * 895 + 1] = 1;
-    refused("the last symbol 256", z.file, z.length, PROXIMITY_SYMBOL);
+    refused("the last symbol 256", z.file, z.length, PROXIMITY_REFUSED_SYMBOL);
     z.proof[2 * 895 + 1] = 0;
     z.proof[-4] = 0x81;
-    refused("897 symbols in the proof", z.file, z.length, PROXIMITY_COUNT);
+    refused("897 symbols in the proof", z.file, z.length, PROXIMITY_REFUSED_COUNT);
     free(z.file);
 }
 
@@ -247,7 +279,7 @@ static void dimensions(void)
         expect("coin bits", proximity_coin_bits(z.file, z.length), table[i].bits);
         answers("coin 0", z.file, z.length, 0, PROXIMITY_ACCEPT, 64);
         answers("last coin", z.file, z.length, bit(table[i].bits) - 1, PROXIMITY_ACCEPT, table[i].column);
-        answers("coin past the last", z.file, z.length, bit(table[i].bits), PROXIMITY_COIN, UNREAD);
+        answers("coin past the last", z.file, z.length, bit(table[i].bits), PROXIMITY_REFUSED_COIN, UNREAD);
         free(z.file);
     }
 }
@@ -258,6 +290,8 @@ int main(void)
     refused_settings();
     refused_records();
     refused_lengths();
+    lent_nowhere();
+    lent_anywhere();
     dimension_7();
     dimensions();
     printf("%d passed, %d failed\n", passed, failed);
