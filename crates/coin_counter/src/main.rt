@@ -1,6 +1,7 @@
 // Tries all coins of the stored file on standard input, and prints the totals, or the number of the
-// refusal.
+// refusal. A write that failed is told on standard error.
 use coins::Counts;
+use libc::STDERR_FILENO;
 use libc::STDIN_FILENO;
 use libc::STDOUT_FILENO;
 ghost use mathlib.Core.Path.{_≡_};
@@ -13,26 +14,29 @@ fn input() -> [u8; 40001]
     [0u8; 40001]
 }
 
-fn line(label: &[u8], n: u64) {
-    io::write_all(STDOUT_FILENO, label);
-    io::print_decimal(STDOUT_FILENO, n);
-    io::write_all(STDOUT_FILENO, b"\n");
+// Whether the line is written.
+fn line(label: &[u8], n: u64) -> bool {
+    io::write_all(STDOUT_FILENO, label)
+        && io::print_decimal(STDOUT_FILENO, n)
+        && io::write_all(STDOUT_FILENO, b"\n")
 }
 
-fn show(c: Counts) {
+// Whether all lines are written.
+fn show(c: Counts) -> bool {
     if c.refusal != 0 {
-        line(b"refused ", c.refusal as u64);
-        return;
+        return line(b"refused ", c.refusal as u64);
     }
-    line(b"k ", c.k as u64);
-    line(b"coins ", c.coins);
-    line(b"rejects ", c.rejects);
-    line(b"reads-most ", c.most as u64);
-    line(b"off ", c.off as u64);
+    line(b"k ", c.k as u64)
+        && line(b"coins ", c.coins)
+        && line(b"rejects ", c.rejects)
+        && line(b"reads-most ", c.most as u64)
+        && line(b"off ", c.off as u64)
 }
 
 fn main() {
     let mut file = input();
     let n = io::read_full(STDIN_FILENO, &mut file);
-    show(coins::count(&file[..n]));
+    if !show(coins::count(&file[..n])) {
+        io::write_all(STDERR_FILENO, b"write failed\n");
+    }
 }

@@ -1,7 +1,8 @@
 // Makes a delivery: reads a message file on standard input and writes its stored file on standard
-// output, or the number that refuses it. No message has 4096 bytes, so an input that goes past the
-// buffer gets the number that all of it would get.
+// output. The number that refuses it, and a write that failed, go to standard error. No message has
+// 4096 bytes, so an input that goes past the buffer gets the number that all of it would get.
 use delivery::Made;
+use libc::STDERR_FILENO;
 use libc::STDIN_FILENO;
 use libc::STDOUT_FILENO;
 ghost use mathlib.Core.Path.{_≡_};
@@ -13,18 +14,22 @@ fn room() -> [u8; 40000]
     [0; 40000]
 }
 
+fn written(file: &[u8]) {
+    if !io::write_all(STDOUT_FILENO, file) {
+        io::write_all(STDERR_FILENO, b"write failed\n");
+    }
+}
+
 fn refused(number: u8) {
-    io::write_all(STDOUT_FILENO, b"refused ");
-    io::print_decimal(STDOUT_FILENO, number as u64);
-    io::write_all(STDOUT_FILENO, b"\n");
+    io::write_all(STDERR_FILENO, b"refused ");
+    io::print_decimal(STDERR_FILENO, number as u64);
+    io::write_all(STDERR_FILENO, b"\n");
 }
 
 fn deliver(message: &[u8]) {
     let mut out = room();
     match delivery::make(message, &mut out) {
-        Made::Written(n) => {
-            io::write_all(STDOUT_FILENO, &out[..n]);
-        }
+        Made::Written(n) => written(&out[..n]),
         Made::Refused(number) => refused(number),
     }
 }
