@@ -1,11 +1,15 @@
 //! Processor time of the proved calls beside the independent model and beside a plain implementation with tables of logarithms, in one
 //! run. The plain one checks no input; the proved calls make all their checks. With a file name, a plot is written there.
+#[path = "../tests/independent/arithmetic.rs"]
+mod arithmetic;
 #[path = "../tests/independent/model.rs"]
 #[allow(dead_code)]
 mod model;
 #[path = "../tests/independent/file.rs"]
 #[allow(dead_code)]
 mod file;
+#[path = "../tests/independent/calls.rs"]
+#[allow(dead_code)]
 mod calls;
 mod plain;
 mod plot;
@@ -14,11 +18,19 @@ use std::hint::black_box;
 
 const MODULUS: u32 = 65581;
 
+/// Processor time in microseconds, by C's own call.
+fn now() -> i64 {
+    extern "C" {
+        fn clock() -> i64;
+    }
+    unsafe { clock() }
+}
+
 /// Microseconds of processor time for n turns.
 fn run(f: &mut dyn FnMut(u64), n: u64) -> i64 {
-    let start = calls::clock();
+    let start = now();
     (0..n).for_each(f);
-    calls::clock() - start
+    now() - start
 }
 
 /// Nanoseconds of processor time for one turn of each: the least of many runs of a millisecond or one turn, which take turns with each
@@ -153,9 +165,8 @@ fn stored(f: &plain::Field, basis: &[u16]) {
     println!("\nall 2048 coins of a stored file at k = 8: proved {:.3} ms, log tables {:.3} ms, model {:.1} ms", proved / 1e6, fast / 1e6, slow / 1e6);
 
     let bytes = stored_file(f, basis);
-    let mut reads = 0;
     let [proved, fast] = times([
-        &mut |i| assert_eq!(calls::check_file(&bytes, coin_at(12, i), &mut reads), 0),
+        &mut |i| assert_eq!(calls::check_file(&bytes, coin_at(12, i)).0, 0),
         &mut |i| assert!(plain_file(f, basis, &bytes, coin_at(12, i))),
     ]);
     let slow = time(|i| {

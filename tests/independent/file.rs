@@ -6,6 +6,8 @@ pub struct File {
     pub basis: Vec<u16>,
     pub word: Vec<u16>,
     pub proof: Vec<u16>,
+    /// Where the symbols of the word and of the proof begin, and where the last record ends.
+    pub places: [usize; 3],
 }
 
 fn symbols(xs: &[u16]) -> impl Iterator<Item = u8> + '_ {
@@ -81,15 +83,23 @@ fn read_record(rest: &mut &[u8], mark: [u8; 2], count: usize, l: u32) -> Result<
     Ok(xs)
 }
 
-/// The file, or the number of the first check that refuses, front to back.
-pub fn read(bytes: &[u8]) -> Result<File, u32> {
+/// The three records at the front, or the number of the first check that refuses, front to back.
+pub fn read_prefix(bytes: &[u8]) -> Result<File, u32> {
     let mut rest = bytes;
     let (modulus, basis) = read_setting(&mut rest)?;
     let (k, l) = (basis.len(), degree(modulus));
+    let first = bytes.len() - rest.len() + 6;
     let word = read_record(&mut rest, [0x57, 0x4f], 1 << k, l)?;
+    let second = bytes.len() - rest.len() + 6;
     let proof = read_record(&mut rest, [0x50, 0x46], proof_length(k), l)?;
-    refuse_if(!rest.is_empty(), 12)?;
-    Ok(File { modulus, basis, word, proof })
+    Ok(File { modulus, basis, word, proof, places: [first, second, bytes.len() - rest.len()] })
+}
+
+/// The file, or the number of the first check that refuses.
+pub fn read(bytes: &[u8]) -> Result<File, u32> {
+    let file = read_prefix(bytes)?;
+    refuse_if(bytes.len() > file.places[2], 12)?;
+    Ok(file)
 }
 
 /// How many bytes the file of a setting of dimension k has.

@@ -1,47 +1,8 @@
 //! Field, word, proof and verdict, written from documents 000 and 01: slow and direct, without tables.
 
+pub use crate::arithmetic::{degree, inverse, irreducible, mul};
+
 pub const LARGEST: usize = 12;
-
-/// Product of polynomials over GF(2), then the remainder by the modulus.
-pub fn mul(m: u32, a: u16, b: u16) -> u16 {
-    let mut v: u64 = 0;
-    for i in 0..16 {
-        if b >> i & 1 == 1 {
-            v ^= (a as u64) << i;
-        }
-    }
-    remainder(v, m as u64) as u16
-}
-
-fn length(v: u64) -> u32 {
-    64 - v.leading_zeros()
-}
-
-fn remainder(mut v: u64, m: u64) -> u64 {
-    while length(v) >= length(m) {
-        v ^= m << (length(v) - length(m));
-    }
-    v
-}
-
-pub fn degree(m: u32) -> u32 {
-    31 - m.leading_zeros()
-}
-
-pub fn irreducible(m: u32) -> bool {
-    (2..m as u64).take_while(|f| length(*f) * 2 <= length(m as u64) + 1).all(|f| remainder(m as u64, f) != 0)
-}
-
-pub fn inverse(m: u32, a: u16) -> u16 {
-    // a^(2^l - 2)
-    let mut r = 1;
-    let mut s = a;
-    for _ in 1..degree(m) {
-        s = mul(m, s, s);
-        r = mul(m, r, s);
-    }
-    r
-}
 
 pub fn elem(basis: &[u16], i: usize) -> u16 {
     basis.iter().enumerate().filter(|(j, _)| i >> j & 1 == 1).fold(0, |s, (_, b)| s ^ b)
@@ -186,6 +147,19 @@ pub fn vanish(m: u32, basis: &[u16], x: u16) -> u16 {
     (0..1usize << basis.len()).fold(1, |s, i| mul(m, s, x ^ elem(basis, i)))
 }
 
+/// Q by the base-q digits of p: digit j is the coefficient of y^j, a polynomial in x.
+fn digits_of(m: u32, p: &[u16], q: &[u16], count: usize) -> Vec<Vec<u16>> {
+    let mut digits = vec![];
+    let mut rest = p.to_vec();
+    for _ in 0..count {
+        rest.resize(rest.len().max(q.len() - 1), 0);
+        let (t, r) = divide(m, &rest, q);
+        digits.push(r);
+        rest = t;
+    }
+    digits
+}
+
 /// The proof of the polynomial p of 2^(k-3) coefficients.
 pub fn proof_of(m: u32, basis: &[u16], p: &[u16]) -> Vec<u16> {
     let k = basis.len();
@@ -195,15 +169,7 @@ pub fn proof_of(m: u32, basis: &[u16], p: &[u16]) -> Vec<u16> {
     let (h, c) = (k / 2, k - k / 2);
     let span: Vec<u16> = (0..1usize << h).map(|i| elem(&basis[..h], i)).collect();
     let q = roots(m, &span);
-    // Q by the base-q digits of p: digits[j] is the coefficient of y^j
-    let mut digits = vec![];
-    let mut rest = p.to_vec();
-    for _ in 0..1usize << (c - 3) {
-        rest.resize(rest.len().max(1 << h), 0);
-        let (t, r) = divide(m, &rest, &q);
-        digits.push(r);
-        rest = t;
-    }
+    let digits = digits_of(m, p, &q, 1 << (c - 3));
     let size = 1usize << h;
     let mut rows = vec![];
     for r in 0..1usize << c {
@@ -306,4 +272,13 @@ pub fn check(m: u32, basis: &[u16], word: &[u16], proof: &[u16], coin: u64) -> u
         return 131072 + 9;
     }
     read.len() as u64 + if is_codeword(m, &leaf_basis(m, basis, coin), &read) { 0 } else { 65536 }
+}
+
+/// The same as the host kit's answer and reads: 0 or 100, or the number of a refusal, which leaves the reads as they were.
+pub fn host_answer(v: u64, unread: u32) -> (u32, u32) {
+    match v >> 16 {
+        0 => (0, v as u32),
+        1 => (100, v as u32 & 65535),
+        _ => (v as u32 & 65535, unread),
+    }
 }

@@ -1,0 +1,94 @@
+//! The proved calls, as safe functions, for the test and the benchmark.
+mod raw {
+    extern "C" {
+        pub fn proximity_sum(modulus: u32, a: u16, b: u16) -> u32;
+        pub fn proximity_product(modulus: u32, a: u16, b: u16) -> u32;
+        pub fn proximity_products(modulus: u32, factors: *const u16, n: usize, values: *mut u16, v: usize) -> u32;
+        pub fn proximity_setting(modulus: u32, basis: *const u16, n: usize) -> u32;
+        pub fn proximity_encode(modulus: u32, basis: *const u16, n: usize, p: *const u16, np: usize, word: *mut u16, w: usize, scratch: *mut u16, s: usize) -> u32;
+        pub fn proximity_decode(modulus: u32, basis: *const u16, n: usize, word: *const u16, w: usize, p: *mut u16, np: usize, scratch: *mut u16, s: usize) -> u32;
+        pub fn proximity_prove(modulus: u32, basis: *const u16, n: usize, word: *const u16, w: usize, proof: *mut u16, p: usize, scratch: *mut u16, s: usize) -> u32;
+        pub fn proximity_check(modulus: u32, basis: *const u16, n: usize, word: *const u16, w: usize, proof: *const u16, p: usize, coin: u64) -> u64;
+        pub fn proximity_write(modulus: u32, basis: *const u16, n: usize, word: *const u16, w: usize, proof: *const u16, p: usize, out: *mut u8, o: usize) -> u32;
+        pub fn proximity_make(message: *const u8, n: usize, out: *mut u8, o: usize) -> u32;
+        pub fn proximity_total(file: *const u8, n: usize, which: u32) -> u64;
+        pub fn proximity_place(file: *const u8, n: usize, which: u32) -> u64;
+        pub fn proximity_prefix_place(file: *const u8, n: usize, which: u32) -> u64;
+        pub fn proximity_file_refusal(file: *const u8, n: usize) -> u32;
+        pub fn proximity_coin_bits(file: *const u8, n: usize) -> u32;
+        pub fn proximity_check_file(file: *const u8, n: usize, coin: u64, reads: *mut u32) -> u32;
+    }
+}
+
+pub fn sum(m: u32, a: u16, b: u16) -> u32 {
+    unsafe { raw::proximity_sum(m, a, b) }
+}
+
+pub fn product(m: u32, a: u16, b: u16) -> u32 {
+    unsafe { raw::proximity_product(m, a, b) }
+}
+
+pub fn products(m: u32, factors: &[u16], values: &mut [u16]) -> u32 {
+    unsafe { raw::proximity_products(m, factors.as_ptr(), factors.len(), values.as_mut_ptr(), values.len()) }
+}
+
+pub fn setting(m: u32, b: &[u16]) -> u32 {
+    unsafe { raw::proximity_setting(m, b.as_ptr(), b.len()) }
+}
+
+pub fn encode(m: u32, b: &[u16], p: &[u16], w: &mut [u16], s: &mut [u16]) -> u32 {
+    unsafe { raw::proximity_encode(m, b.as_ptr(), b.len(), p.as_ptr(), p.len(), w.as_mut_ptr(), w.len(), s.as_mut_ptr(), s.len()) }
+}
+
+pub fn decode(m: u32, b: &[u16], w: &[u16], p: &mut [u16], s: &mut [u16]) -> u32 {
+    unsafe { raw::proximity_decode(m, b.as_ptr(), b.len(), w.as_ptr(), w.len(), p.as_mut_ptr(), p.len(), s.as_mut_ptr(), s.len()) }
+}
+
+pub fn prove(m: u32, b: &[u16], w: &[u16], p: &mut [u16], s: &mut [u16]) -> u32 {
+    unsafe { raw::proximity_prove(m, b.as_ptr(), b.len(), w.as_ptr(), w.len(), p.as_mut_ptr(), p.len(), s.as_mut_ptr(), s.len()) }
+}
+
+pub fn check(m: u32, b: &[u16], w: &[u16], p: &[u16], coin: u64) -> u64 {
+    unsafe { raw::proximity_check(m, b.as_ptr(), b.len(), w.as_ptr(), w.len(), p.as_ptr(), p.len(), coin) }
+}
+
+pub fn write(m: u32, b: &[u16], w: &[u16], p: &[u16], out: &mut [u8]) -> u32 {
+    unsafe { raw::proximity_write(m, b.as_ptr(), b.len(), w.as_ptr(), w.len(), p.as_ptr(), p.len(), out.as_mut_ptr(), out.len()) }
+}
+
+pub fn make(message: &[u8], out: &mut [u8]) -> u32 {
+    unsafe { raw::proximity_make(message.as_ptr(), message.len(), out.as_mut_ptr(), out.len()) }
+}
+
+/// A total of the coin counter by its number: the refusal, then its five lines.
+pub fn total(file: &[u8], which: u32) -> u64 {
+    unsafe { raw::proximity_total(file.as_ptr(), file.len(), which) }
+}
+
+/// The refusal, and where word, proof and file end, of a whole file.
+pub fn places(file: &[u8]) -> [u64; 4] {
+    [0, 1, 2, 3].map(|i| unsafe { raw::proximity_place(file.as_ptr(), file.len(), i) })
+}
+
+/// The same of three records that bytes may follow.
+pub fn prefix_places(file: &[u8]) -> [u64; 4] {
+    [0, 1, 2, 3].map(|i| unsafe { raw::proximity_prefix_place(file.as_ptr(), file.len(), i) })
+}
+
+pub fn file_refusal(file: &[u8]) -> u32 {
+    unsafe { raw::proximity_file_refusal(file.as_ptr(), file.len()) }
+}
+
+pub fn coin_bits(file: &[u8]) -> u32 {
+    unsafe { raw::proximity_coin_bits(file.as_ptr(), file.len()) }
+}
+
+/// What the number of reads holds before a call.
+pub const UNREAD: u32 = 77777;
+
+/// The answer and the number of reads.
+pub fn check_file(file: &[u8], coin: u64) -> (u32, u32) {
+    let mut reads = UNREAD;
+    let answer = unsafe { raw::proximity_check_file(file.as_ptr(), file.len(), coin, &mut reads) };
+    (answer, reads)
+}

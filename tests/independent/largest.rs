@@ -1,0 +1,122 @@
+//! The larger dimensions: at each one delivery of the model, whole, and some coins of it, on symbols and from C.
+use crate::codec::left;
+use crate::files::coded;
+use crate::symbols::Pair;
+use crate::{calls, file, model, setting, Draw, Met, Tally};
+
+struct Delivery {
+    k: usize,
+    p: Vec<u16>,
+    x: Pair,
+}
+
+fn delivery(d: &mut Draw, k: usize) -> Delivery {
+    let s = setting(d, k);
+    let p = d.list(1 << (k - 3), 1 << s.l);
+    let (w, proof) = (model::word_of(s.m, &s.b, &p), model::proof_of(s.m, &s.b, &p));
+    Delivery { k, p, x: Pair { s, w, proof } }
+}
+
+type Call = fn(u32, &[u16], &[u16], &mut [u16], &mut [u16]) -> u32;
+
+/// Whether a call gives this number, and leaves its output and its scratch, which start as noise, as it must.
+fn gives(d: &mut Draw, y: &Delivery, call: Call, given: &[u16], number: u32, right: &[u16]) -> bool {
+    let (old, scratch) = (d.list(right.len(), 65536), d.list((4 << y.k) + 5, 65536));
+    let (mut out, mut s) = (old.clone(), scratch.clone());
+    let got = call(y.x.s.m, &y.x.s.b, given, &mut out, &mut s);
+    got == number && (out, s) == left(number, right.to_vec(), &old, &scratch)
+}
+
+/// Encoder, decoder and prover on the delivery, and the last two on a word with one symbol changed.
+fn whole(t: &mut Tally, d: &mut Draw, y: &Delivery) {
+    let Delivery { k, p, x } = y;
+    let mut off = x.w.clone();
+    off[d.below(1 << k) as usize] ^= 1 + d.below((1 << x.s.l) - 1) as u16;
+    let number = if model::is_codeword(x.s.m, &x.s.b, &off) { 0 } else { 10 };
+    let right = [
+        gives(d, y, calls::encode, p, 0, &x.w),
+        gives(d, y, calls::decode, &x.w, 0, p),
+        gives(d, y, calls::prove, &x.w, 0, &x.proof),
+        gives(d, y, calls::decode, &off, number, p),
+        gives(d, y, calls::prove, &off, number, &x.proof),
+        number == 10,
+    ];
+    t.group(&format!("word, decoding and proof at k = {k}"), right.iter().filter(|x| !**x).count() as u64, 6);
+}
+
+/// A coin in range, and a place that it reads.
+fn coin(d: &mut Draw, k: usize) -> (u64, model::Place) {
+    let coin = d.below(1 << model::coin_bits(k));
+    let read = model::positions(k, coin);
+    (coin, read[d.below(read.len() as u64) as usize])
+}
+
+/// The checker on symbols; in every second turn a symbol that the coin reads is changed.
+fn symbols(t: &mut Tally, d: &mut Draw, y: &mut Delivery) {
+    let (mut wrong, mut met) = (0, Met::default());
+    for turn in 0..200 {
+        let (coin, at) = coin(d, y.k);
+        let kept = y.x.swap(at, d.below(1 << y.x.s.l) as u16);
+        if turn % 2 == 0 {
+            y.x.swap(at, kept);
+        }
+        wrong += u64::from(!y.x.same(coin, &mut met));
+        y.x.swap(at, kept);
+    }
+    t.answers(&format!("coins at k = {}", y.k), wrong, &met, &[0, 100]);
+}
+
+/// Where the bytes of a place stand in the file.
+fn byte_of(k: usize, at: model::Place) -> usize {
+    let word = 7 + 2 * k + 6;
+    match at {
+        model::Place::Word(i) => word + 2 * i,
+        model::Place::Proof(i) => word + (2 << k) + 6 + 2 * i,
+    }
+}
+
+/// Writer and readers on the delivery's file.
+fn stored(t: &mut Tally, y: &Delivery) {
+    let f = file::bytes_of(y.x.s.m, &y.x.s.b, &y.x.w, &y.x.proof);
+    let mut out = vec![9; f.len()];
+    let right = [
+        calls::write(y.x.s.m, &y.x.s.b, &y.x.w, &y.x.proof, &mut out) == 0 && out == f,
+        calls::places(&f) == coded(file::read(&f)),
+        calls::prefix_places(&f) == calls::places(&f),
+        calls::coin_bits(&f) == model::coin_bits(y.k),
+    ];
+    t.group(&format!("file at k = {}", y.k), right.iter().filter(|x| !**x).count() as u64, 4);
+}
+
+/// The checker from C on the delivery's file; in every second turn a symbol that the coin reads is changed.
+fn bytes(t: &mut Tally, d: &mut Draw, y: &mut Delivery) {
+    let mut f = file::bytes_of(y.x.s.m, &y.x.s.b, &y.x.w, &y.x.proof);
+    let (mut wrong, mut met) = (0, Met::default());
+    for turn in 0..50 {
+        let (coin, at) = coin(d, y.k);
+        let symbol = d.below(1 << y.x.s.l) as u16;
+        let kept = y.x.swap(at, symbol);
+        if turn % 2 == 0 {
+            y.x.swap(at, kept);
+        } else {
+            f[byte_of(y.k, at)..][..2].copy_from_slice(&symbol.to_le_bytes());
+        }
+        let right = model::host_answer(model::check(y.x.s.m, &y.x.s.b, &y.x.w, &y.x.proof, coin), calls::UNREAD);
+        wrong += u64::from(calls::check_file(&f, coin) != right);
+        met.add(right.0);
+        y.x.swap(at, kept);
+        f[byte_of(y.k, at)..][..2].copy_from_slice(&kept.to_le_bytes());
+    }
+    t.answers(&format!("coins from C at k = {}", y.k), wrong, &met, &[0, 100]);
+}
+
+pub fn all(t: &mut Tally) {
+    let mut d = Draw(0xbb67ae8584caa73b);
+    for k in 8..=12 {
+        let mut y = delivery(&mut d, k);
+        whole(t, &mut d, &y);
+        symbols(t, &mut d, &mut y);
+        stored(t, &y);
+        bytes(t, &mut d, &mut y);
+    }
+}

@@ -1,0 +1,115 @@
+//! What is made from files and symbols: the proved writer, counter and message program beside the independent model.
+use crate::files::{bytes, delivery, spoil};
+use crate::{calls, damage, file, model, outside, spoil_setting, Draw, Met, Tally};
+
+/// The writer, with right and wrong settings, lengths and symbols; the output is compared whole.
+fn written(t: &mut Tally) {
+    let mut d = Draw(0x9b05688c2b3e6c1f);
+    let (mut wrong, mut met) = (0, Met::default());
+    for round in 0..2000u64 {
+        let k = 3 + d.below(5) as usize;
+        let mut x = delivery(&mut d, k);
+        match round % 10 {
+            0 | 1 => spoil_setting(&mut d, &mut x.s),
+            2 => x.w.push(0),
+            3 => damage(&mut d, &mut x.w, 65536),
+            4 => damage(&mut d, &mut x.proof, 65536),
+            5 => drop(x.proof.pop()),
+            _ => {}
+        }
+        let right = bytes(&x);
+        let room = d.near(right.len());
+        let number = match model::setting(x.s.m, &x.s.b) {
+            0 if x.w.len() != 1 << k || x.proof.len() != model::proof_length(k) || room != right.len() => 6,
+            0 if outside(x.s.m, &x.w) || outside(x.s.m, &x.proof) => 9,
+            n => n,
+        };
+        let old: Vec<u8> = (0..room).map(|_| d.next() as u8).collect();
+        let mut out = old.clone();
+        let got = calls::write(x.s.m, &x.s.b, &x.w, &x.proof, &mut out);
+        wrong += u64::from(got != number || out != if number == 0 { right } else { old });
+        met.add(number);
+    }
+    t.answers("writer of files", wrong, &met, &[0, 1, 2, 3, 4, 5, 6, 9]);
+}
+
+/// The coin counter over honest, damaged and overlong files.
+fn counts(t: &mut Tally) {
+    let mut d = Draw(0x1f83d9abfb41bd6b);
+    let (mut wrong, mut met, mut rejects) = (0, Met::default(), 0);
+    for round in 0..800u64 {
+        let k = if round < 12 { 8 } else { 3 + (round % 5) as usize };
+        let mut x = delivery(&mut d, k);
+        match round % 4 {
+            1 => damage(&mut d, &mut x.w, 1 << x.s.l),
+            2 => damage(&mut d, &mut x.proof, 1 << x.s.l),
+            3 if round % 8 == 3 => spoil_setting(&mut d, &mut x.s),
+            _ => {}
+        }
+        let mut f = bytes(&x);
+        match round % 16 {
+            5 => spoil(&mut d, &mut f, k),
+            6 => f.resize(39999 + d.below(3) as usize, 0),
+            8 => f.truncate(d.below(f.len() as u64) as usize),
+            _ => {}
+        }
+        let right = file::count(&f);
+        let got = [0, 1, 2, 3, 4, 5].map(|i| calls::total(&f, i));
+        rejects += right.map_or(0, |r| r[2]);
+        wrong += u64::from(got[0] != right.err().unwrap_or(0) as u64 || got[1..] != right.unwrap_or([0; 5]));
+        met.add(right.err().unwrap_or(0));
+    }
+    t.answers("coin counter", wrong, &met, &[0, 1, 2, 3, 4, 5, 6, 9, 11, 12]);
+    t.group("rejecting coins counted", 0, rejects);
+}
+
+/// A message that is right or not, of dimension k.
+fn message(d: &mut Draw, k: usize, round: u64) -> Vec<u8> {
+    let mut x = delivery(d, k);
+    match round % 12 {
+        1 | 3 => spoil_setting(d, &mut x.s),
+        2 => damage(d, &mut x.p, 65536),
+        4 => x.p.push(1),
+        _ => {}
+    }
+    let mut f = file::message_of(x.s.m, &x.s.b, &x.p);
+    match round % 12 {
+        5 => spoil(d, &mut f, k),
+        6 => f.truncate(d.below(f.len() as u64) as usize),
+        7 => f.push(0),
+        _ => {}
+    }
+    f
+}
+
+/// From coefficients in bytes to a stored file, in enough room and in too little; the output is compared whole.
+fn messages(t: &mut Tally) {
+    let mut d = Draw(0x5be0cd19137e2179);
+    let (mut wrong, mut met) = (0, Met::default());
+    for round in 0..1200u64 {
+        let k = if round < 10 { 8 } else if round % 40 == 11 { 9 } else { 3 + (round % 5) as usize };
+        let f = message(&mut d, k, round);
+        let all = file::file_length(k);
+        let room = [40000, all, all - 1, 0][d.below(4) as usize];
+        let old: Vec<u8> = (0..room).map(|i| (i * 7) as u8).collect();
+        let mut out = old.clone();
+        let got = calls::make(&f, &mut out);
+        let read = file::read_message(&f, room);
+        met.add(*read.as_ref().err().unwrap_or(&0));
+        let (right, whole) = match read {
+            Err(n) => (65536 + n, old),
+            Ok((m, b, p)) => {
+                let made = file::bytes_of(m, &b, &model::word_of(m, &b, &p), &model::proof_of(m, &b, &p));
+                (made.len() as u32, [&made[..], &old[made.len()..]].concat())
+            }
+        };
+        wrong += u64::from(got != right || out != whole);
+    }
+    t.answers("files from coefficients", wrong, &met, &[0, 1, 2, 3, 4, 5, 6, 9, 11, 12]);
+}
+
+pub fn all(t: &mut Tally) {
+    written(t);
+    counts(t);
+    messages(t);
+}
