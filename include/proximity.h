@@ -29,13 +29,13 @@ extern "C" {
 #define PROXIMITY_REFUSED_BASIS_SIZE 3u        /* the basis has fewer than 3 or more than 12 elements */
 #define PROXIMITY_REFUSED_BASIS_RANGE 4u       /* a basis element is not below 2^l, l being the modulus's degree */
 #define PROXIMITY_REFUSED_BASIS_DEPENDENT 5u   /* the basis is dependent (a zero or a repeat included) */
-#define PROXIMITY_REFUSED_LENGTH 6u            /* a lent word, coefficient list or proof has another length than the setting's */
+#define PROXIMITY_REFUSED_LENGTH 6u            /* a word, coefficient list or proof has another length than the setting's */
 #define PROXIMITY_REFUSED_SCRATCH 7u           /* the scratch is too short */
 #define PROXIMITY_REFUSED_COIN 8u              /* the coin is not below 2^R */
 #define PROXIMITY_REFUSED_SYMBOL 9u            /* a symbol is not below 2^l */
 #define PROXIMITY_REFUSED_NO_CODEWORD 10u      /* the word given to prover or decoder is not a codeword */
 #define PROXIMITY_REFUSED_CUT 11u              /* the file ends before its last record is whole, or a mark differs */
-#define PROXIMITY_REFUSED_COUNT 12u            /* a stored count is not the one of the setting, or bytes follow the last record */
+#define PROXIMITY_REFUSED_COUNT 12u            /* a stored count is not the setting's, or bytes follow the last record */
 
 /* The number of the first check that refuses the file, or 0. */
 uint32_t proximity_file_refusal(const uint8_t *file, size_t length);
