@@ -1,4 +1,5 @@
 -- Cases P5 and P6 of document 01, by the contract of the checker: the checks pass, and the verdict comes with the number of symbols read.
+-- `proximity/specs/Cases` has the verdicts alone.
 use mathlib.Core.Path.{_≡_, refl, sym, ap, _∙_}
 use mathlib.Core.Logic.{inr}
 use mathlib.Core.List.{List, [], _∷_}

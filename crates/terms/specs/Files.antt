@@ -8,7 +8,6 @@ use Prim.Native.Nat.{ℕ, _^_, _≤_, _<_}
 use native.Mathlib.Omega.{arith}
 use lib.ListN.{length}
 use Rattle.lists.specs.Answers.{Passes, Refuses}
-use Rattle.lists.specs.Calls.{Within, answer-within}
 use Rattle.field.specs.Symbols.{symbols}
 use Rattle.proximity.specs.Dim.{dim, S, R}
 use Rattle.proximity.specs.Proof.{Honest}
@@ -25,6 +24,7 @@ use Rattle.stored.specs.Whole.{Delivery, accepted-delivery}
 use Rattle.host.specs.Answer.{codeOf, readsAfter, HostAnswer}
 use Rattle.terms.specs.Answer.{same-answer}
 use Rattle.terms.specs.OneAnswer.{one-file-answer}
+use Rattle.terms.specs.Refusals.{refused-file-check}
 use Rattle.terms.specs.Terms.{AcceptedAtAllCoins, PairOfAPolynomial, accepted-exactly}
 
 -- ---- stored files
@@ -73,10 +73,7 @@ module _ (f : List ℕ) (coin before : ℕ) where
   pub told-apart : (after r : ℕ) → HostAnswer f coin before after r → ToldApart after r
   told-apart after r (Accept n, a, e, h) = inl (e, subst (λ (x : ℕ). AnsweredFile f coin (Accept x)) (sym h) a)
   told-apart after r (Reject n, a, e, h) = inr (inl (e, subst (λ (x : ℕ). AnsweredFile f coin (Reject x)) (sym h) a))
-  told-apart after r (Refused n, a, e, h) = inr (inr (omega (arith, answer-within (coinChecks f coin) within (a .1)), subst (Refuses (coinChecks f coin)) (sym e) a, h))
-    where
-      within : Within 12 (coinChecks f coin)
-      within = search (arith) depth 40
+  told-apart after r (Refused n, a, e, h) = inr (inr (omega (arith, refused-file-check f coin n a .1), subst (Refuses (coinChecks f coin)) (sym e) a, h))
 
 -- Sentence 3, first part, of the call from C: an accepted file is accepted at every coin exactly where its word evaluates a polynomial of
 -- degree below an eighth of its length, and its proof is the one laid out for it.

@@ -15,6 +15,7 @@ use Rattle.space.specs.Setting.{settingChecks, noSetting, Settled}
 use Rattle.space.specs.declared.Checked.{Checked}
 use Rattle.verifier.specs.Checker as checker
 use Rattle.verifier.specs.declared.Verdict.the-variants as verdict
+use Rattle.stored.specs.Check.{coinChecks, AnsweredFile}
 use Rattle.stored.specs.Reader as reader
 use Rattle.stored.specs.Reader.{prefixChecks, fileChecks, readOf, noRead}
 use Rattle.stored.specs.declared.Reading.{Reading}
@@ -103,6 +104,13 @@ refused-counting f c (inr ((l, a), e)) h = (answer-within (countChecks f) (searc
 -- the checker, which writes nothing
 pub refused-check : (m : ℕ) (bs w π : List ℕ) (coin n : ℕ) → checker.Told m bs w π coin (verdict.Refused n) → (0 < n) × (n ≤ 9)
 refused-check m bs w π coin n (l, a) = (l, answer-within (checker.checkerChecks m bs w π coin) (search (arith) depth 30) a)
+
+-- the checker over a stored file, and the number that a file gets by itself
+pub refused-file-check : (f : List ℕ) (coin n : ℕ) → AnsweredFile f coin (verdict.Refused n) → (0 < n) × (n ≤ 12)
+refused-file-check f coin n (l, a) = (l, answer-within (coinChecks f coin) (search (arith) depth 40) a)
+
+pub file-number : (f : List ℕ) (r : ℕ) → Answers (fileChecks f) r → r ≤ 12
+file-number f r = answer-within (fileChecks f) (search (arith) depth 40)
 
 -- the writer of stored files
 pub refused-writing : (m : ℕ) (bs w π old new : List ℕ) (n : ℕ) → Wrote m bs w π old new (written.Refused n) → (0 < n) × (n ≤ 9) × (new ≡ old)

@@ -16,10 +16,12 @@ use Rattle.poly.specs.Span.{elem}
 use Rattle.space.specs.Sizes.{maxDim}
 use Rattle.space.specs.Sound.{Sound}
 use Rattle.proximity.specs.Cases.{basis-8, basis-16}
-use Rattle.proximity.specs.Dim.{dim, S}
+use Rattle.proximity.specs.Dim.{dim, R}
 use Rattle.proximity.specs.Layout.{length-proof}
 use Rattle.proximity.specs.Proof.{proofOf}
-use Rattle.terms.specs.Terms.{AcceptedAtAllCoins, accepted-exactly}
+use Rattle.verifier.specs.Checker.{Told}
+use Rattle.verifier.specs.declared.Verdict.the-variants.{Accept}
+use Rattle.terms.specs.Terms.{accepted-exactly}
 
 -- a setting in which element i is i, for an irreducible modulus
 counting-sound : (m : ℕ) (bs : List ℕ) → 8 ≤ m → m < 131072 → T (irreducible? m) → 3 ≤ length bs → length bs ≤ maxDim → Below (2 ^ degree m) bs
@@ -58,13 +60,9 @@ sound-283 =
     counting-sound 283 basis-128 (omega arith) (omega arith) tt (omega arith) (omega arith)
     (omega arith, (omega arith, (omega arith, (omega arith, (omega arith, (omega arith, (omega arith, tt))))))) refl
 
--- In every sound setting each polynomial of degree below n/8 has a pair that is accepted at all coins: its word and the proof laid out for it.
-module _ (m : ℕ) (bs : List ℕ) (s : Sound m bs) (P : List ℕ) (l : length P ≡ 2 ^ (length bs - 3)) (e : All (symbols m .Sym) P) where
-  pub word-length : length (wordOf (symbols m) (length bs) bs P) ≡ 2 ^ length bs
-  word-length = length-tab (2 ^ length bs) (λ i. eval (symbols m) P (elem (symbols m) bs i))
-
-  pub proof-length : length (proofOf (symbols m) (dim (length bs)) bs P) ≡ S (length bs)
-  proof-length = length-proof (symbols m) (length bs) bs P
-
-  pub accepted-pair : AcceptedAtAllCoins m bs s (wordOf (symbols m) (length bs) bs P) (proofOf (symbols m) (dim (length bs)) bs P) word-length proof-length
-  accepted-pair = accepted-exactly m bs s _ _ word-length proof-length .1 (P, record { count = l; elements = e; word = refl; proof = refl })
+-- In every sound setting each polynomial of degree below n/8 has a pair that is accepted at every coin: its word and the proof laid out for it.
+pub accepted-pair : (m : ℕ) (bs : List ℕ) → Sound m bs → (P : List ℕ) → length P ≡ 2 ^ (length bs - 3) → All (symbols m .Sym) P → (coin : ℕ) → coin < 2 ^ R (length bs)
+    → (reads : ℕ) × Told m bs (wordOf (symbols m) (length bs) bs P) (proofOf (symbols m) (dim (length bs)) bs P) coin (Accept reads)
+accepted-pair m bs s P l e =
+    accepted-exactly m bs s _ _ (length-tab (2 ^ length bs) (λ i. eval (symbols m) P (elem (symbols m) bs i))) (length-proof (symbols m) (length bs) bs P) .1
+    (P, record { count = l; elements = e; word = refl; proof = refl })

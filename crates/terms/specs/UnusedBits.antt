@@ -1,7 +1,7 @@
 -- Unused bits change nothing. `used (dim k) coin` is the number of bits that the coin uses, from bit 0 up; two coins of one setting that
 -- agree in these bits have the same positions and get the same answer.
 use mathlib.Core.Path.{_≡_, sym, ap, _∙_, subst, transport}
-use mathlib.Core.Logic.{_⊎_, inl, inr}
+use mathlib.Core.Logic.{_⊎_, _↔_, inl, inr}
 use mathlib.Core.List.{List, [], _∷_, _++_, map}
 use Prim.Native.Nat.{ℕ, _^_, _%_, _≤_, _<_}
 use native.Mathlib.Omega.{arith}
@@ -13,7 +13,7 @@ use Rattle.field.specs.Symbols.{symbols}
 use Rattle.space.specs.Setting.{settingChecks}
 use Rattle.proximity.specs.Dim.{dim, S, R}
 use Rattle.proximity.specs.Unused as unused
-use Rattle.proximity.specs.Unused.{used, SameUsed}
+use Rattle.proximity.specs.Unused.{used, SameUsed, same-used-back}
 use Rattle.proximity.specs.Verifier.{Accepts, positions, readAt}
 use Rattle.proximity.specs.declared.Place.{Place}
 use Rattle.verifier.specs.Checker.{readChecks, checkerChecks, Answered, Told}
@@ -58,21 +58,29 @@ module _ (K : Ops) (k : ℕ) (bs w π : List ℕ) (coin other : ℕ) (same : Sam
   same-answered cs ds f (Refused n) (l, a) = (l, f n a)
 
 -- The checker: two coins below 2^R(k) that agree in the used bits get the same answer, a refusal included.
-pub unused-bits : (m : ℕ) (bs w π : List ℕ) (coin other : ℕ) → coin < 2 ^ R (length bs) → other < 2 ^ R (length bs)
-    → other % 2 ^ used (dim (length bs)) coin ≡ coin % 2 ^ used (dim (length bs)) coin
-    → (answer : Verdict) → Told m bs w π coin answer → Told m bs w π other answer
-unused-bits m bs w π coin other h l same =
-    same-answered (symbols m) (length bs) bs w π coin other same (checkerChecks m bs w π coin) (checkerChecks m bs w π other)
-    (λ n. both-in-range n (2 ^ R (length bs)) coin other h l (settingChecks m bs ++ ((6, (length w ≡ 2 ^ length bs → ⊥) ⊎ (length π ≡ S (length bs) → ⊥)) ∷ []))
-    (readChecks (symbols m) (length bs) w π coin) (readChecks (symbols m) (length bs) w π other) (same-reads (symbols m) (length bs) bs w π coin other same n))
+module _ (m : ℕ) (bs w π : List ℕ) where
+  onward : (coin other : ℕ) → coin < 2 ^ R (length bs) → other < 2 ^ R (length bs) → SameUsed (dim (length bs)) coin other
+      → (answer : Verdict) → Told m bs w π coin answer → Told m bs w π other answer
+  onward coin other h l same =
+      same-answered (symbols m) (length bs) bs w π coin other same (checkerChecks m bs w π coin) (checkerChecks m bs w π other)
+      (λ n. both-in-range n (2 ^ R (length bs)) coin other h l (settingChecks m bs ++ ((6, (length w ≡ 2 ^ length bs → ⊥) ⊎ (length π ≡ S (length bs) → ⊥)) ∷ []))
+      (readChecks (symbols m) (length bs) w π coin) (readChecks (symbols m) (length bs) w π other) (same-reads (symbols m) (length bs) bs w π coin other same n))
+
+  pub unused-bits : (coin other : ℕ) → coin < 2 ^ R (length bs) → other < 2 ^ R (length bs)
+      → other % 2 ^ used (dim (length bs)) coin ≡ coin % 2 ^ used (dim (length bs)) coin → (answer : Verdict) → Told m bs w π coin answer ↔ Told m bs w π other answer
+  unused-bits coin other h l same v = (onward coin other h l same v, onward other coin l h (same-used-back (dim (length bs)) coin other same) v)
 
 -- The checker over a stored file,
-module _ (f : List ℕ) (coin other : ℕ) (h : coin < 2 ^ R (dimIn f)) (l : other < 2 ^ R (dimIn f)) (same : other % 2 ^ used (dim (dimIn f)) coin ≡ coin % 2 ^ used (dim (dimIn f)) coin) where
-  pub unused-bits-of-file : (answer : Verdict) → AnsweredFile f coin answer → AnsweredFile f other answer
-  unused-bits-of-file =
+module _ (f : List ℕ) where
+  onward-in-file : (coin other : ℕ) → coin < 2 ^ R (dimIn f) → other < 2 ^ R (dimIn f) → SameUsed (dim (dimIn f)) coin other → (answer : Verdict) → AnsweredFile f coin answer → AnsweredFile f other answer
+  onward-in-file coin other h l same =
       same-answered (symbols (modulusIn f)) (dimIn f) (basisIn f) (wordIn f) (proofIn f) coin other same (coinChecks f coin) (coinChecks f other)
       (λ n. both-in-range n (2 ^ R (dimIn f)) coin other h l (fileChecks f) [] [] (λ a. a))
 
-  -- and the call from C.
-  pub unused-bits-from-c : (before after r : ℕ) → HostAnswer f coin before after r → HostAnswer f other before after r
-  unused-bits-from-c before after r (v, a, e, g) = (v, unused-bits-of-file v a, e, g)
+  module _ (coin other : ℕ) (h : coin < 2 ^ R (dimIn f)) (l : other < 2 ^ R (dimIn f)) (same : other % 2 ^ used (dim (dimIn f)) coin ≡ coin % 2 ^ used (dim (dimIn f)) coin) where
+    pub unused-bits-of-file : (answer : Verdict) → AnsweredFile f coin answer ↔ AnsweredFile f other answer
+    unused-bits-of-file v = (onward-in-file coin other h l same v, onward-in-file other coin l h (same-used-back (dim (dimIn f)) coin other same) v)
+
+    -- and the call from C.
+    pub unused-bits-from-c : (before after r : ℕ) → HostAnswer f coin before after r ↔ HostAnswer f other before after r
+    unused-bits-from-c before after r = ((λ (v, a, e, g). (v, unused-bits-of-file v .0 a, e, g)), λ (v, a, e, g). (v, unused-bits-of-file v .1 a, e, g))
