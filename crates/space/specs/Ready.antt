@@ -1,12 +1,12 @@
 -- What a caller of `check` knows: of a setting that passed, and of a refusal. Assumes nothing.
 use mathlib.Core.Path.{_≡_, refl, sym, subst}
 use mathlib.Core.Logic.{inl, inr}
-use mathlib.Core.List.{List}
+use mathlib.Core.List.{List, _++_}
 use Prim.Native.Nat.{ℕ, _^_, _<_}
 use native.Mathlib.Omega.{arith}
 use lib.ListN.{length}
 use Rattle.lists.specs.All.{Below}
-use Rattle.lists.specs.Answers.{Answers}
+use Rattle.lists.specs.Answers.{Checks, Answers, Passes, Numbered, answers-after, refused-first}
 use Rattle.lists.specs.Tables.{All-tab}
 use Rattle.field.specs.Binary.{degree}
 use Rattle.field.specs.Checks.{degree-range}
@@ -15,7 +15,7 @@ use Rattle.field.specs.Products.{Sized}
 use Rattle.field.specs.Symbols.{symbols}
 use Rattle.poly.specs.Novel.{step, step-sym}
 use Rattle.space.specs.Images.{Images}
-use Rattle.space.specs.Setting.{settingChecks, settingOf, stepsOf, inversesOf, Settled}
+use Rattle.space.specs.Setting.{settingChecks, settingOf, noSetting, stepsOf, inversesOf, SettledBy, Settled}
 use Rattle.space.specs.Sound.{Sound, sound, sound-field}
 use Rattle.space.specs.Table.{sound-images}
 use Rattle.space.specs.declared.Checked.{Checked}
@@ -44,6 +44,18 @@ ready-setting {m} {bs} s =
       steps = refl;
       inverses = refl;
     }
+
+-- ---- one table of checks after another
+
+module _ (cs ds : Checks) (m : ℕ) (bs : List ℕ) (c : Checked) where
+  pub settled-after : Numbered cs → Passes cs → SettledBy ds m bs c → SettledBy (cs ++ ds) m bs c
+  settled-after n p (inl (q, z, e)) = inl (answers-after cs ds 0 n p q, z, e)
+  settled-after n p (inr ((l, q), e)) = inr ((l, answers-after cs ds (c .refusal) n p q), e)
+
+  pub settled-first : (r : ℕ) → (r ≡ 0 → ⊥) → Answers cs r → c .refusal ≡ r → c .setting ≡ noSetting → SettledBy (cs ++ ds) m bs c
+  settled-first r n a z e =
+      let l : 0 < c .refusal = omega arith in
+      inr ((l, refused-first cs ds (c .refusal) l (subst (Answers cs) (sym z) a)), e)
 
 module _ (m : ℕ) (bs : List ℕ) (c : Checked) where
   pub ready : Settled m bs c → c .refusal ≡ 0 → Ready m bs (c .setting)

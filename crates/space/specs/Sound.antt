@@ -7,7 +7,7 @@ use native.Mathlib.Decide.{ℕ-discrete}
 use native.Mathlib.Omega.{arith}
 use lib.ListN.{length}
 use Rattle.lists.specs.All.{Below, below-stable}
-use Rattle.lists.specs.Answers.{Passes, Numbered, answers-after, passes-each}
+use Rattle.lists.specs.Answers.{Checks, Passes, Numbered, answers-after, passes-each}
 use Rattle.field.specs.Binary.{degree}
 use Rattle.field.specs.Calls.{modulus-numbered}
 use Rattle.field.specs.Checks.{modulusChecks, GoodModulus, modulus-passed, good-passes, not-less}
@@ -24,18 +24,14 @@ pub record Sound (m : ℕ) (bs : List ℕ) : Type 0 where
   pub high : length bs ≤ maxDim
   pub basis : Basis (symbols m) (length bs) bs
 
--- what checks 1 to 4 say
+-- what checks 3 and 4 say
 pub record Bounded (m : ℕ) (bs : List ℕ) : Type 0 where
-  pub modulus : GoodModulus m
   pub low : 3 ≤ length bs
   pub high : length bs ≤ maxDim
   pub elements : Below (2 ^ degree m) bs
 
-basis-numbered : (m : ℕ) (bs : List ℕ) → Numbered (basisChecks m bs)
+pub basis-numbered : (m : ℕ) (bs : List ℕ) → Numbered (basisChecks m bs)
 basis-numbered m bs = (omega arith, (omega arith, tt))
-
-pub four-numbered : (m : ℕ) (bs : List ℕ) → Numbered (modulusChecks m ++ basisChecks m bs)
-four-numbered m bs = (omega arith, (omega arith, (omega arith, (omega arith, tt))))
 
 pub setting-numbered : (m : ℕ) (bs : List ℕ) → Numbered (settingChecks m bs)
 setting-numbered m bs = (omega arith, (omega arith, (omega arith, (omega arith, (omega arith, tt)))))
@@ -44,14 +40,11 @@ outside : {n : ℕ} → 3 ≤ n → n ≤ maxDim → (n < 3) ⊎ (maxDim < n) �
 outside {n} l h (inl a) = omega arith
 outside {n} l h (inr a) = omega arith
 
-pub bounded : (m : ℕ) (bs : List ℕ) → Passes (modulusChecks m ++ basisChecks m bs) → Bounded m bs
-bounded m bs p = go (passes-each (modulusChecks m) (basisChecks m bs) (modulus-numbered m) p)
-  where
-    go : Passes (modulusChecks m) × Passes (basisChecks m bs) → Bounded m bs
-    go (q, inl a) = absurd (omega arith)
-    go (q, inr (a, inl b)) = absurd (omega arith)
-    go (q, inr (a, inr b)) =
-        record { modulus = modulus-passed m q; low = not-less (λ h. a (inl h)); high = not-less (λ h. a (inr h)); elements = below-stable (2 ^ degree m) bs (b .0) }
+pub bounded : (m : ℕ) (bs : List ℕ) → Passes (basisChecks m bs) → Bounded m bs
+bounded m bs (inl a) = absurd (omega arith)
+bounded m bs (inr (a, inl b)) = absurd (omega arith)
+bounded m bs (inr (a, inr b)) =
+    record { low = not-less (λ h. a (inl h)); high = not-less (λ h. a (inr h)); elements = below-stable (2 ^ degree m) bs (b .0) }
 
 module _ (m : ℕ) (bs : List ℕ) where
   independent-stable : ((Independent (symbols m) bs → ⊥) → ⊥) → Independent (symbols m) bs
@@ -61,21 +54,24 @@ module _ (m : ℕ) (bs : List ℕ) where
       by (yes z) = z
       by (no n) = absurd (f (λ ind. n (ind i h e)))
 
+  -- checks 3 to 5
+  abbrev late : Checks
+  late = basisChecks m bs ++ spanChecks m bs
+
   pub sound : Passes (settingChecks m bs) → Sound m bs
-  sound p = go (passes-each (modulusChecks m ++ basisChecks m bs) (spanChecks m bs) (four-numbered m bs) p)
+  sound p =
+      let parts = passes-each (modulusChecks m) late (modulus-numbered m) p in
+      let two = passes-each (basisChecks m bs) (spanChecks m bs) (basis-numbered m bs) (parts .1) in
+      go (modulus-passed m (parts .0)) (bounded m bs (two .0)) (two .1)
     where
-      go : Passes (modulusChecks m ++ basisChecks m bs) × Passes (spanChecks m bs) → Sound m bs
-      go (q, inl a) = absurd (omega arith)
-      go (q, inr a) =
-          let b = bounded m bs q in
-          record { modulus = b .modulus; low = b .low; high = b .high; basis = record { count = refl; elements = b .elements; independent = independent-stable (a .0) } }
+      go : GoodModulus m → Bounded m bs → Passes (spanChecks m bs) → Sound m bs
+      go g b (inl a) = absurd (omega arith)
+      go g b (inr a) = record { modulus = g; low = b .low; high = b .high; basis = record { count = refl; elements = b .elements; independent = independent-stable (a .0) } }
 
   pub sound-passes : Sound m bs → Passes (settingChecks m bs)
   sound-passes s =
-      answers-after (modulusChecks m ++ basisChecks m bs) (spanChecks m bs) 0 (four-numbered m bs)
-      (answers-after (modulusChecks m) (basisChecks m bs) 0 (modulus-numbered m) (good-passes m (s .modulus))
-      (inr (outside (s .low) (s .high), inr ((λ f. f (s .basis .elements)), refl))))
-      (inr ((λ f. f (s .basis .independent)), refl))
+      answers-after (modulusChecks m) late 0 (modulus-numbered m) (good-passes m (s .modulus))
+      (inr (outside (s .low) (s .high), inr ((λ f. f (s .basis .elements)), inr ((λ f. f (s .basis .independent)), refl))))
 
   pub sound-iff : Passes (settingChecks m bs) ↔ Sound m bs
   sound-iff = (sound, sound-passes)

@@ -12,10 +12,9 @@ ghost use lib.ListN.{length};
 ghost use Rattle.lists.specs.All.{Below};
 ghost use Rattle.field.specs.Binary.{degree, Irreducible};
 ghost use Rattle.field.specs.Products.{Sized};
-ghost use Rattle.field.specs.Checks.{modulusChecks};
 ghost use Rattle.lists.specs.Answers.{Answers};
 ghost use mathlib.Core.List.{_++_};
-ghost use Rattle.space.specs.Setting.{Tabled, noTables, noSetting, paddedOf, basisChecks, Made, Settled};
+ghost use Rattle.space.specs.Setting.{Tabled, noTables, noSetting, paddedOf, basisChecks, spanChecks, Made, SettledBy, Settled};
 ghost use Rattle.space.specs.Sizes.{maxDim};
 
 // The largest dimension. The sizes of arrays follow from it.
@@ -162,17 +161,6 @@ fn basis_refusal(f: Field, basis: &[u16]) -> u8
     4
 }
 
-// Checks 1 to 4 of a setting.
-fn refusal(modulus: u32, basis: &[u16]) -> u8
-    ensures { λ r. ⌜ Answers (modulusChecks modulus ++ basisChecks modulus (now (basis .entry))) r ⌝ }
-{
-    let n = field::modulus::modulus_refusal(modulus);
-    if n == 0 {
-        return basis_refusal(field::modulus::field_of(modulus), basis);
-    }
-    n
-}
-
 // The setting of a basis that passed checks 1 to 4: check 5.
 fn settle(f: Field, basis: &[u16]) -> Checked
     requires { ⌜ Sized f × Irreducible (f .modulus) × (length (now basis) ≤ maxDim) × Below (2 ^ degree (f .modulus)) (now basis) ⌝ }
@@ -201,6 +189,21 @@ fn settle(f: Field, basis: &[u16]) -> Checked
     refused(5)
 }
 
+// The setting of a basis in a field whose modulus passed checks 1 and 2: checks 3 to 5.
+//
+// Ruled out: 5 for a dependent basis of 13 elements, since check 3 comes first; the setting of a
+// basis with an element of another field, since check 4 is by the field's own degree.
+pub fn check_basis(f: Field, basis: &[u16]) -> Checked
+    requires { ⌜ Sized f × Irreducible (f .modulus) ⌝ }
+    ensures { λ r. ⌜ SettledBy (basisChecks (f .modulus) (now (basis .entry)) ++ spanChecks (f .modulus) (now (basis .entry))) (f .modulus) (now (basis .entry)) r ⌝ }
+{
+    let n = basis_refusal(f, basis);
+    if n == 0 {
+        return settle(f, basis);
+    }
+    refused(n)
+}
+
 // A setting by its modulus and its basis: checks 1 to 5, then the setting.
 //
 // Ruled out: a dependent basis that is answered with a setting, since no setting has a step 0; a
@@ -208,9 +211,9 @@ fn settle(f: Field, basis: &[u16]) -> Checked
 pub fn check(modulus: u32, basis: &[u16]) -> Checked
     ensures { λ r. ⌜ Settled modulus (now (basis .entry)) r ⌝ }
 {
-    let n = refusal(modulus, basis);
+    let n = field::modulus::modulus_refusal(modulus);
     if n == 0 {
-        return settle(field::modulus::field_of(modulus), basis);
+        return check_basis(field::modulus::field_of(modulus), basis);
     }
     refused(n)
 }

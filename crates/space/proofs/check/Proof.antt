@@ -1,28 +1,25 @@
 -- `space::check` meets its contract. Assumes nothing.
-use mathlib.Core.Path.{_≡_, sym, subst}
-use mathlib.Core.Logic.{inl, inr}
+use mathlib.Core.Path.{sym, subst}
 use mathlib.Core.List.{List, _++_}
 use Prim.Native.Nat.{ℕ}
-use native.Mathlib.Omega.{arith}
-use Rattle.lists.specs.Answers.{Answers, Passes, answers-after, refused-first}
+use Rattle.lists.specs.Answers.{Checks, Answers, Passes}
 use Rattle.field.specs.Binary.{Irreducible}
-use Rattle.field.specs.Checks.{modulusChecks}
-use Rattle.space.specs.Setting.{basisChecks, spanChecks, settingChecks, Made, Settled}
-use Rattle.space.specs.Sound.{Bounded, bounded, four-numbered}
-use Rattle.space.specs.declared.Checked.{Checked}
+use Rattle.field.specs.Calls.{modulus-numbered}
+use Rattle.field.specs.Checks.{modulusChecks, GoodModulus, modulus-passed}
+use Rattle.space.specs.Ready.{settled-after, settled-first}
+use Rattle.space.specs.Setting.{basisChecks, spanChecks, SettledBy}
 use borrow.Author.Needs.{needs}
 use Rattle.space.proofs.check.Statement.{statement}
 use Rattle.space.proofs.check.Tie as tie
 
--- past checks 1 to 4 the answer is that of check 5
-settled-after : (m : ℕ) (bs : List ℕ) (c : Checked) → Passes (modulusChecks m ++ basisChecks m bs) → Made m bs c → Settled m bs c
-settled-after m bs c p (inl (q, r, e)) = inl (answers-after (modulusChecks m ++ basisChecks m bs) (spanChecks m bs) 0 (four-numbered m bs) p q, r, e)
-settled-after m bs c p (inr ((l, q), e)) = inr ((l, answers-after (modulusChecks m ++ basisChecks m bs) (spanChecks m bs) (c .refusal) (four-numbered m bs) p q), e)
+-- checks 3 to 5
+abbrev late : ℕ → List ℕ → Checks
+late m bs = basisChecks m bs ++ spanChecks m bs
 
-refusal-requires : tie.Need-refusal-requires
-refusal-requires c κs = search needs
+modulus-refusal-requires : tie.Need-modulus-refusal-requires
+modulus-refusal-requires c κs = search needs
 
--- checks 1 to 4 pass
+-- checks 1 and 2 pass
 module _ (c : tie.Then1) where
   abbrev m : ℕ
   m = c .before .before .before .args .modulus
@@ -30,51 +27,43 @@ module _ (c : tie.Then1) where
   abbrev bs : List ℕ
   bs = c .before .before .before .args .basis .now
 
-  passes : Passes (modulusChecks m ++ basisChecks m bs)
-  passes = subst (Answers (modulusChecks m ++ basisChecks m bs)) (c .if1 .taken) (c .before .refusal .ensures)
+  passes : Passes (modulusChecks m)
+  passes = subst (Answers (modulusChecks m)) (c .if1 .taken) (c .before .modulus-refusal .ensures)
 
-  good : Bounded m bs
-  good = bounded m bs passes
+  good : GoodModulus m
+  good = modulus-passed m passes
 
 field-of-requires : tie.Need-field-of-requires
-field-of-requires c κs = (good c .modulus .low, good c .modulus .high)
+field-of-requires c κs = (good c .low, good c .high)
 
-settle-requires : tie.Need-settle-requires
-settle-requires c κs =
-    let g = good (c .before) in
+check-basis-requires : tie.Need-check-basis-requires
+check-basis-requires c κs =
     let f = c .field-of .ensures in
-    (f .sized, subst Irreducible (sym (f .modulus)) (g .modulus .irreducible), g .high, rw (f .modulus) (g .elements))
+    (f .sized, subst Irreducible (sym (f .modulus)) (good (c .before) .irreducible))
 
 returns : tie.Need-returns
 returns c =
-    let here = c .before .before in
-    settled-after (m here) (bs here) (c .settle .result) (passes here)
-    (subst (λ (k : ℕ). Made k (bs here) (c .settle .result)) (c .before .field-of .ensures .modulus) (c .settle .ensures))
+    let h = c .before .before in
+    settled-after (modulusChecks (m h)) (late (m h) (bs h)) (m h) (bs h) (c .check-basis .result) (modulus-numbered (m h)) (passes h)
+    (subst (λ (q : ℕ). SettledBy (late q (bs h)) q (bs h) (c .check-basis .result)) (c .before .field-of .ensures .modulus) (c .check-basis .ensures))
 
 refused-requires : tie.Need-refused-requires
 refused-requires c κs = search needs
 
 returns-2 : tie.Need-returns-2
 returns-2 c =
-    let n = c .before .before .refusal in
+    let n = c .before .before .modulus-refusal in
     let a = c .before .before .before .before .args in
-    let same : c .refused .result .refusal ≡ n .result = c .refused .ensures .0 in
-    inr (
-      (
-        omega (arith, c .before .if1 .left),
-        subst (Answers (settingChecks (a .modulus) (a .basis .now))) (sym same)
-            (refused-first (modulusChecks (a .modulus) ++ basisChecks (a .modulus) (a .basis .now)) (spanChecks (a .modulus) (a .basis .now)) (n .result) (omega (arith, c .before .if1 .left)) (n .ensures)),
-      ),
-      c .refused .ensures .1,
-    )
+    settled-first (modulusChecks (a .modulus)) (late (a .modulus) (a .basis .now)) (a .modulus) (a .basis .now) (c .refused .result) (n .result) (c .before .if1 .left) (n .ensures) (c .refused .ensures .0)
+    (c .refused .ensures .1)
 
 pub check-spec : {M : Type 1} → statement M
 check-spec =
     tie.close
     (tie.spec
-    refusal-requires
+    modulus-refusal-requires
     field-of-requires
-    settle-requires
+    check-basis-requires
     returns
     refused-requires
     returns-2)
