@@ -36,7 +36,7 @@ basis-numbered m bs = (omega arith, (omega arith, tt))
 pub setting-numbered : (m : ℕ) (bs : List ℕ) → Numbered (settingChecks m bs)
 setting-numbered m bs = (omega arith, (omega arith, (omega arith, (omega arith, (omega arith, tt)))))
 
-outside : {n : ℕ} → 3 ≤ n → n ≤ maxDim → (n < 3) ⊎ (maxDim < n) → ⊥
+pub outside : {n : ℕ} → 3 ≤ n → n ≤ maxDim → (n < 3) ⊎ (maxDim < n) → ⊥
 outside {n} l h (inl a) = omega arith
 outside {n} l h (inr a) = omega arith
 

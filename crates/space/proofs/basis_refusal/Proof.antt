@@ -1,13 +1,12 @@
 -- `space::basis_refusal` meets its contract. Assumes nothing.
 use mathlib.Core.Path.{refl}
-use mathlib.Core.Logic.{_⊎_, inl, inr}
-use Prim.Native.Nat.{ℕ, _≤_, _<_}
+use mathlib.Core.Logic.{inl, inr}
 use native.Mathlib.Omega.{arith}
 use Rattle.lists.specs.Decides.{decides-true, decides-false}
+use Rattle.space.specs.Sound.{outside}
 use borrow.Author.Needs.{needs}
 use Rattle.space.proofs.basis_refusal.Statement.{statement}
 use Rattle.space.proofs.basis_refusal.Tie as tie
-use Rattle.space.specs.Sizes.{maxDim}
 
 returns : tie.Need-returns
 returns c = inl (inl (c .if1 .taken), refl)
@@ -18,18 +17,13 @@ returns-2 c = inl (inr (c .if2 .taken), refl)
 all-symbols-requires : tie.Need-all-symbols-requires
 all-symbols-requires c κs = search needs
 
-within : {n : ℕ} → 3 ≤ n → n ≤ maxDim → (n < 3) ⊎ (maxDim < n) → ⊥
-within {n} l h (inl a) = omega arith
-within {n} l h (inr a) = omega arith
-
 returns-3 : tie.Need-returns-3
 returns-3 c =
-    let n = c .before .before .before .before .before in
-    inr (within (omega arith) (omega arith), inr ((λ no. no (decides-true _ (c .before .all-symbols .ensures) (c .if3 .taken))), refl))
+    inr (outside (omega arith) (omega arith), inr ((λ no. no (decides-true _ (c .before .all-symbols .ensures) (c .if3 .taken))), refl))
 
 returns-4 : tie.Need-returns-4
 returns-4 c =
-    inr (within (omega arith) (omega arith), inl (decides-false _ (c .before .all-symbols .ensures) (c .if3 .left), refl))
+    inr (outside (omega arith) (omega arith), inl (decides-false _ (c .before .all-symbols .ensures) (c .if3 .left), refl))
 
 pub basis-refusal-spec : {M : Type 1} → statement M
 basis-refusal-spec =
