@@ -27,9 +27,13 @@ basisChecks m bs = (3, (length bs < 3) ⊎ (maxDim < length bs)) ∷ (4, (Below 
 abbrev pub spanChecks : ℕ → List ℕ → Checks
 spanChecks m bs = (5, (Independent (symbols m) bs → ⊥)) ∷ []
 
+-- checks 3 to 5
+abbrev pub spaceChecks : ℕ → List ℕ → Checks
+spaceChecks m bs = basisChecks m bs ++ spanChecks m bs
+
 -- checks 1 to 5
 abbrev pub settingChecks : ℕ → List ℕ → Checks
-settingChecks m bs = modulusChecks m ++ basisChecks m bs ++ spanChecks m bs
+settingChecks m bs = modulusChecks m ++ spaceChecks m bs
 
 -- ---- the tables of a basis; past its end each entry is 0
 

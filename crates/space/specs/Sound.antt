@@ -1,13 +1,13 @@
 -- A setting is sound when it passes checks 1 to 5: what that says. Assumes nothing.
 use mathlib.Core.Path.{_≡_, refl}
 use mathlib.Core.Logic.{_⊎_, inl, inr, _↔_}
-use mathlib.Core.List.{List, _++_}
+use mathlib.Core.List.{List}
 use Prim.Native.Nat.{ℕ, _^_, _≤_, _<_}
 use native.Mathlib.Decide.{ℕ-discrete}
 use native.Mathlib.Omega.{arith}
 use lib.ListN.{length}
 use Rattle.lists.specs.All.{Below, below-stable}
-use Rattle.lists.specs.Answers.{Checks, Passes, Numbered, answers-after, passes-each}
+use Rattle.lists.specs.Answers.{Passes, Numbered, answers-after, passes-each}
 use Rattle.field.specs.Binary.{degree}
 use Rattle.field.specs.Calls.{modulus-numbered}
 use Rattle.field.specs.Checks.{modulusChecks, GoodModulus, modulus-passed, good-passes, not-less}
@@ -15,7 +15,7 @@ use Rattle.field.specs.Laws.{IsField}
 use Rattle.field.specs.Symbols.{symbols, symbols-field}
 use Rattle.poly.specs.Codeword.{Basis}
 use Rattle.poly.specs.Span.{Independent}
-use Rattle.space.specs.Setting.{basisChecks, spanChecks, settingChecks}
+use Rattle.space.specs.Setting.{basisChecks, spanChecks, spaceChecks, settingChecks}
 use Rattle.space.specs.Sizes.{maxDim}
 
 pub record Sound (m : ℕ) (bs : List ℕ) : Type 0 where
@@ -54,13 +54,9 @@ module _ (m : ℕ) (bs : List ℕ) where
       by (yes z) = z
       by (no n) = absurd (f (λ ind. n (ind i h e)))
 
-  -- checks 3 to 5
-  abbrev late : Checks
-  late = basisChecks m bs ++ spanChecks m bs
-
   pub sound : Passes (settingChecks m bs) → Sound m bs
   sound p =
-      let parts = passes-each (modulusChecks m) late (modulus-numbered m) p in
+      let parts = passes-each (modulusChecks m) (spaceChecks m bs) (modulus-numbered m) p in
       let two = passes-each (basisChecks m bs) (spanChecks m bs) (basis-numbered m bs) (parts .1) in
       go (modulus-passed m (parts .0)) (bounded m bs (two .0)) (two .1)
     where
@@ -70,7 +66,7 @@ module _ (m : ℕ) (bs : List ℕ) where
 
   pub sound-passes : Sound m bs → Passes (settingChecks m bs)
   sound-passes s =
-      answers-after (modulusChecks m) late 0 (modulus-numbered m) (good-passes m (s .modulus))
+      answers-after (modulusChecks m) (spaceChecks m bs) 0 (modulus-numbered m) (good-passes m (s .modulus))
       (inr (outside (s .low) (s .high), inr ((λ f. f (s .basis .elements)), inr ((λ f. f (s .basis .independent)), refl))))
 
   pub sound-iff : Passes (settingChecks m bs) ↔ Sound m bs

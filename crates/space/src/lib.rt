@@ -13,8 +13,7 @@ ghost use Rattle.lists.specs.All.{Below};
 ghost use Rattle.field.specs.Binary.{degree, Irreducible};
 ghost use Rattle.field.specs.Products.{Sized};
 ghost use Rattle.lists.specs.Answers.{Answers};
-ghost use mathlib.Core.List.{_++_};
-ghost use Rattle.space.specs.Setting.{Tabled, noTables, noSetting, paddedOf, basisChecks, spanChecks, Made, SettledBy, Settled};
+ghost use Rattle.space.specs.Setting.{Tabled, noTables, noSetting, paddedOf, basisChecks, spaceChecks, Made, SettledBy, Settled};
 ghost use Rattle.space.specs.Sizes.{maxDim};
 
 // The largest dimension. The sizes of arrays follow from it.
@@ -195,7 +194,7 @@ fn settle(f: Field, basis: &[u16]) -> Checked
 // basis with an element of another field, since check 4 is by the field's own degree.
 pub fn check_basis(f: Field, basis: &[u16]) -> Checked
     requires { ⌜ Sized f × Irreducible (f .modulus) ⌝ }
-    ensures { λ r. ⌜ SettledBy (basisChecks (f .modulus) (now (basis .entry)) ++ spanChecks (f .modulus) (now (basis .entry))) (f .modulus) (now (basis .entry)) r ⌝ }
+    ensures { λ r. ⌜ SettledBy (spaceChecks (f .modulus) (now (basis .entry))) (f .modulus) (now (basis .entry)) r ⌝ }
 {
     let n = basis_refusal(f, basis);
     if n == 0 {

@@ -1,20 +1,16 @@
 -- `space::check` meets its contract. Assumes nothing.
 use mathlib.Core.Path.{sym, subst}
-use mathlib.Core.List.{List, _++_}
+use mathlib.Core.List.{List}
 use Prim.Native.Nat.{ℕ}
-use Rattle.lists.specs.Answers.{Checks, Answers, Passes}
+use Rattle.lists.specs.Answers.{Answers, Passes}
 use Rattle.field.specs.Binary.{Irreducible}
 use Rattle.field.specs.Calls.{modulus-numbered}
 use Rattle.field.specs.Checks.{modulusChecks, GoodModulus, modulus-passed}
 use Rattle.space.specs.Ready.{settled-after, settled-first}
-use Rattle.space.specs.Setting.{basisChecks, spanChecks, SettledBy}
+use Rattle.space.specs.Setting.{spaceChecks, SettledBy}
 use borrow.Author.Needs.{needs}
 use Rattle.space.proofs.check.Statement.{statement}
 use Rattle.space.proofs.check.Tie as tie
-
--- checks 3 to 5
-abbrev late : ℕ → List ℕ → Checks
-late m bs = basisChecks m bs ++ spanChecks m bs
 
 modulus-refusal-requires : tie.Need-modulus-refusal-requires
 modulus-refusal-requires c κs = search needs
@@ -44,8 +40,8 @@ check-basis-requires c κs =
 returns : tie.Need-returns
 returns c =
     let h = c .before .before in
-    settled-after (modulusChecks (m h)) (late (m h) (bs h)) (m h) (bs h) (c .check-basis .result) (modulus-numbered (m h)) (passes h)
-    (subst (λ (q : ℕ). SettledBy (late q (bs h)) q (bs h) (c .check-basis .result)) (c .before .field-of .ensures .modulus) (c .check-basis .ensures))
+    settled-after (modulusChecks (m h)) (spaceChecks (m h) (bs h)) (m h) (bs h) (c .check-basis .result) (modulus-numbered (m h)) (passes h)
+    (subst (λ (q : ℕ). SettledBy (spaceChecks q (bs h)) q (bs h) (c .check-basis .result)) (c .before .field-of .ensures .modulus) (c .check-basis .ensures))
 
 refused-requires : tie.Need-refused-requires
 refused-requires c κs = search needs
@@ -54,7 +50,7 @@ returns-2 : tie.Need-returns-2
 returns-2 c =
     let n = c .before .before .modulus-refusal in
     let a = c .before .before .before .before .args in
-    settled-first (modulusChecks (a .modulus)) (late (a .modulus) (a .basis .now)) (a .modulus) (a .basis .now) (c .refused .result) (n .result) (c .before .if1 .left) (n .ensures) (c .refused .ensures .0)
+    settled-first (modulusChecks (a .modulus)) (spaceChecks (a .modulus) (a .basis .now)) (a .modulus) (a .basis .now) (c .refused .result) (n .result) (c .before .if1 .left) (n .ensures) (c .refused .ensures .0)
     (c .refused .ensures .1)
 
 pub check-spec : {M : Type 1} → statement M
