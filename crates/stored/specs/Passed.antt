@@ -12,9 +12,10 @@ use Rattle.lists.specs.Decides.{equal-stable}
 use Rattle.lists.specs.Tables.{length-tab}
 use Rattle.field.specs.Calls.{modulus-numbered}
 use Rattle.field.specs.Checks.{modulusChecks, GoodModulus, modulus-passed, good-passes, not-less}
-use Rattle.space.specs.Setting.{SettledBy, Settled}
+use Rattle.space.specs.Ready.{settled-after}
+use Rattle.space.specs.Setting.{spaceChecks, SettledBy}
 use Rattle.space.specs.Sizes.{maxDim}
-use Rattle.space.specs.Sound.{Sound, sound}
+use Rattle.space.specs.Sound.{outside}
 use Rattle.space.specs.declared.Checked.{Checked}
 use Rattle.stored.specs.Bytes.{twoAt, fourAt, numbersAt}
 use Rattle.stored.specs.File.{wordRecordAt, modulusIn, dimIn, basisIn, Opens}
@@ -74,36 +75,24 @@ module _ (f : List ℕ) where
     pub head-late : (r : ℕ) → Passes (modulusChecks (modulusIn f)) → Answers (lateChecks f) r → Answers (headChecks f) r
     head-late r p a = inr ((λ g. g o), answers-after (modulusChecks (modulusIn f)) (lateChecks f) r (modulus-numbered (modulusIn f)) p a)
 
-  pub head-in : 3 ≤ dimIn f → dimIn f ≤ maxDim → (dimIn f < 3) ⊎ (maxDim < dimIn f) → ⊥
-  head-in l h (inl a) = omega arith
-  head-in l h (inr a) = omega arith
-
   pub head-passes : Head f → Passes (headChecks f)
-  head-passes h = head-late (h .opened) 0 (good-passes (modulusIn f) (h .modulus)) (inr (head-in (h .low) (h .high), inr ((λ l. omega (arith, h .basis)), refl)))
+  head-passes h = head-late (h .opened) 0 (good-passes (modulusIn f) (h .modulus)) (inr (outside (h .low) (h .high), inr ((λ l. omega (arith, h .basis)), refl)))
 
   -- past the head the checks of the setting go on at 4
   module _ (h : Head f) where
-    from-four : (r : ℕ) → 0 < r → Answers (Rattle.space.specs.Setting.settingChecks (modulusIn f) (basisIn f)) r → Answers (basisChecks f) r
-    from-four r l (inl a) = absurd (head-modulus-good (a .0))
-      where
-        head-modulus-good : (modulusIn f < 8) ⊎ (131071 < modulusIn f) → ⊥
-        head-modulus-good (inl b) = omega (arith, h .modulus .low)
-        head-modulus-good (inr b) = omega (arith, h .modulus .high)
-    from-four r l (inr (a, inl b)) = absurd (b .0 (h .modulus .irreducible))
-    from-four r l (inr (a, inr (b, inl d))) = absurd (outside (d .0))
-      where
-        outside : (length (basisIn f) < 3) ⊎ (maxDim < length (basisIn f)) → ⊥
-        outside (inl e) = omega (arith, h .low, length-basis f)
-        outside (inr e) = omega (arith, h .high, length-basis f)
-    from-four r l (inr (a, inr (b, inr (d, e)))) = e
+    pub in-range : (length (basisIn f) < 3) ⊎ (maxDim < length (basisIn f)) → ⊥
+    in-range = rw length-basis (outside (h .low) (h .high))
 
-    pub settled-after-head : (c : Checked) → Settled (modulusIn f) (basisIn f) c → SettledBy (settingChecks f) (modulusIn f) (basisIn f) c
-    settled-after-head c (inl (p, z, e)) = inl (answers-after (headChecks f) (basisChecks f) 0 (head-numbered f) (head-passes h) ((inr ((λ n. n (s .basis .elements)), inr ((λ n. n (s .basis .independent)), refl)))), z, e)
+    from-four : {r : ℕ} → Answers (spaceChecks (modulusIn f) (basisIn f)) r → Answers (basisChecks f) r
+    from-four (inl d) = absurd (in-range (d .0))
+    from-four (inr (d, e)) = e
+
+    pub settled-after-head : (c : Checked) → SettledBy (spaceChecks (modulusIn f) (basisIn f)) (modulusIn f) (basisIn f) c → SettledBy (settingChecks f) (modulusIn f) (basisIn f) c
+    settled-after-head c s = settled-after (headChecks f) (basisChecks f) (modulusIn f) (basisIn f) c (head-numbered f) (head-passes h) (go s)
       where
-        s : Sound (modulusIn f) (basisIn f)
-        s = sound (modulusIn f) (basisIn f) p
-    settled-after-head c (inr ((l, a), e)) =
-        inr ((l, answers-after (headChecks f) (basisChecks f) (c .refusal) (head-numbered f) (head-passes h) (from-four (c .refusal) l a)), e)
+        go : SettledBy (spaceChecks (modulusIn f) (basisIn f)) (modulusIn f) (basisIn f) c → SettledBy (basisChecks f) (modulusIn f) (basisIn f) c
+        go (inl (p, z, e)) = inl (from-four p, z, e)
+        go (inr ((l, a), e)) = inr ((l, from-four a), e)
 
 -- ---- a record of symbols
 

@@ -67,9 +67,10 @@ pub fn setting_of(file: &[u8]) -> Checked
             setting: space::no_setting(),
         };
     }
+    let f = modulus::field_of(bytes::four_at(file, 2));
     let k = file[6] as usize;
     let basis = basis_at(file, k);
-    space::check(bytes::four_at(file, 2), &basis[..k])
+    space::check_basis(f, &basis[..k])
 }
 
 // Whether count two-byte numbers from index at on are all below 2^l.

@@ -8,9 +8,10 @@ use borrow.Author.Tests.{not-true, not-false}
 use Rattle.lists.specs.Answers.{Answers, Passes}
 use Rattle.lists.specs.Decides.{decides-true, decides-false}
 use Rattle.field.specs.Checks.{modulusChecks}
+use Rattle.space.specs.Sound.{outside}
 use Rattle.stored.specs.File.{Opens, modulusIn}
 use Rattle.stored.specs.Reader.{lateChecks, headChecks}
-use Rattle.stored.specs.Passed.{head-modulus, head-late, head-in}
+use Rattle.stored.specs.Passed.{head-modulus, head-late}
 use borrow.Author.Needs.{needs}
 use Rattle.stored.proofs.records.head_refusal.Statement.{statement}
 use Rattle.stored.proofs.records.head_refusal.Tie as tie
@@ -75,12 +76,12 @@ add-if5 c = search needs
 returns-5 : tie.Need-returns-5
 returns-5 c =
     let e = c .before .before .before .before in
-    late e 11 (inr (head-in (bytes (here (e .before))) (omega arith) (omega arith), inl (omega arith, refl)))
+    late e 11 (inr (outside (omega arith) (omega arith), inl (omega arith, refl)))
 
 returns-6 : tie.Need-returns-6
 returns-6 c =
     let e = c .before .before .before .before in
-    late e 0 (inr (head-in (bytes (here (e .before))) (omega arith) (omega arith), inr ((λ l. omega arith), refl)))
+    late e 0 (inr (outside (omega arith) (omega arith), inr ((λ l. omega arith), refl)))
 
 pub head-refusal-spec : {M : Type 1} → statement M
 head-refusal-spec =

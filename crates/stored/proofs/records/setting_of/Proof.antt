@@ -1,5 +1,5 @@
 -- `stored::records::setting_of` meets its contract. Assumes nothing.
-use mathlib.Core.Path.{_≡_, sym, subst}
+use mathlib.Core.Path.{_≡_, sym, _∙_, subst, transport}
 use mathlib.Core.Logic.{inr}
 use mathlib.Core.List.{List}
 use Prim.Native.Nat.{ℕ, _≤_, _<_}
@@ -7,8 +7,10 @@ use native.Mathlib.Omega.{arith}
 use lib.ListN.{length, take}
 use lib.Seq.{length-take-le}
 use Rattle.lists.specs.Answers.{Answers, refused-first}
-use Rattle.space.specs.Setting.{Settled}
-use Rattle.stored.specs.File.{dimIn, basisIn}
+use Rattle.field.specs.Binary.{Irreducible}
+use Rattle.field.specs.Checks.{GoodModulus}
+use Rattle.space.specs.Setting.{spaceChecks, SettledBy}
+use Rattle.stored.specs.File.{modulusIn, dimIn, basisIn}
 use Rattle.stored.specs.Passed.{Head, head-passed, settled-after-head}
 use Rattle.stored.specs.Reader.{headChecks, basisChecks}
 use borrow.Author.Needs.{needs}
@@ -36,46 +38,63 @@ module _ (c : tie.Else1) where
   head : Head bytes
   head = head-passed bytes (subst (Answers (headChecks bytes)) (c .if1 .left) (c .before .head-refusal .ensures))
 
+four-at-requires : tie.Need-four-at-requires
+four-at-requires c κs = omega (arith, head c .opened .present)
+
+field-of-requires : tie.Need-field-of-requires
+field-of-requires c κs =
+    let g = subst GoodModulus (sym (c .four-at .ensures)) (head (c .before) .modulus) in
+    (g .low, g .high)
+
+-- the field of the modulus
+module _ (c : tie.After-field-of) where
+  abbrev past : tie.Else1
+  past = c .before .before
+
+  modulus : c .field-of .result .modulus ≡ modulusIn (bytes past)
+  modulus = c .field-of .ensures .modulus ∙ c .before .four-at .ensures
+
 shared-slice-read-k : tie.Need-shared-slice-read-k
-shared-slice-read-k c = omega (arith, head (c .before) .opened .present)
+shared-slice-read-k c = omega (arith, head (past (c .before)) .opened .present)
 
 cast-k : tie.Need-cast-k
 cast-k c = omega (arith, c .shared-slice-known2 .given 6)
 
 basis-at-requires : tie.Need-basis-at-requires
-basis-at-requires c κs = (head (c .before) .high, head (c .before) .basis)
-
-four-at-requires : tie.Need-four-at-requires
-four-at-requires c κs = omega (arith, head (c .before .before) .opened .present)
+basis-at-requires c κs = let h = head (past (c .before)) in (h .high, h .basis)
 
 -- the basis is the first k of the 16 numbers
 module _ (c : tie.After-basis-at) where
-  abbrev here : tie.Else1
-  here = c .before .before
+  abbrev made : tie.After-field-of
+  made = c .before .before
 
-  room : dimIn (bytes here) ≤ length (c .basis-at .result)
-  room = omega (arith, head here .high, c .basis-at .ensures .0)
+  abbrev f : List ℕ
+  f = bytes (past made)
 
-  basis : take (dimIn (bytes here)) (c .basis-at .result) ≡ basisIn (bytes here)
+  room : dimIn f ≤ length (c .basis-at .result)
+  room = omega (arith, head (past made) .high, c .basis-at .ensures .0)
+
+  basis : take (dimIn f) (c .basis-at .result) ≡ basisIn f
   unfolding basisIn
   basis = c .basis-at .ensures .1
 
 array-share-prefix-basis : tie.Need-array-share-prefix-basis
-array-share-prefix-basis c = room (c .before)
+array-share-prefix-basis c = room c
 
-slice-aggregate-check : tie.Need-slice-aggregate-check
-slice-aggregate-check c = sym (length-take-le _ _ (room (c .before .before)))
+slice-aggregate-check-basis : tie.Need-slice-aggregate-check-basis
+slice-aggregate-check-basis c = sym (length-take-le _ _ (room (c .before)))
 
-check-requires : tie.Need-check-requires
-check-requires c κs = search needs
+check-basis-requires : tie.Need-check-basis-requires
+check-basis-requires c κs =
+    let m = made (c .before) in
+    (m .field-of .ensures .sized, subst Irreducible (sym (modulus m)) (head (past m) .modulus .irreducible))
 
 returns-2 : tie.Need-returns-2
 returns-2 c =
-    let b = c .before .before .before in
-    let f = bytes (here b) in
-    settled-after-head f (head (here b)) (c .check .result)
-    (subst (λ (m : ℕ). Settled m (basisIn f) (c .check .result)) (c .before .before .four-at .ensures)
-    (subst (λ (bs : List ℕ). Settled (c .before .before .four-at .result) bs (c .check .result)) (basis b) (c .check .ensures)))
+    let b = c .before .before in
+    let r = c .check-basis .result in
+    settled-after-head (f b) (head (past (made b))) r
+    (transport (λ i. SettledBy (spaceChecks (modulus (made b) i) (basis b i)) (modulus (made b) i) (basis b i) r) (c .check-basis .ensures))
 
 pub setting-of-spec : {M : Type 1} → statement M
 setting-of-spec =
@@ -84,11 +103,12 @@ setting-of-spec =
     head-refusal-requires
     no-setting-requires
     returns
+    four-at-requires
+    field-of-requires
     shared-slice-read-k
     cast-k
     basis-at-requires
-    four-at-requires
     array-share-prefix-basis
-    slice-aggregate-check
-    check-requires
+    slice-aggregate-check-basis
+    check-basis-requires
     returns-2)
