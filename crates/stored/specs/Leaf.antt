@@ -35,15 +35,13 @@ pub record LeafTable (k : ℕ) (t : List ℕ) (coin j : ℕ) (u : List ℕ) : Ty
   pub dimension : j ≡ leafDim (dim k) coin
   pub right : (m : ℕ) → Irreducible m → (b : List ℕ) → Basis (symbols m) k b → Images (symbols m) b t → Images (symbols m) (leafBasis (symbols m) (dim k) b coin) u
 
--- on the way: the bits `rest` lead on from dimension j and the table u
-pub record Leads (k : ℕ) (t : List ℕ) (coin j : ℕ) (u : List ℕ) (rest : ℕ) : Type 0 where
-  pub count : length u ≡ cells
-  pub dimension : leafDim (dim j) rest ≡ leafDim (dim k) coin
-  pub right : (m : ℕ) → Irreducible m → (b : List ℕ) → Basis (symbols m) k b → Images (symbols m) b t
-      → (c : List ℕ) × (Basis (symbols m) j c × (Images (symbols m) c u × (leafBasis (symbols m) (dim j) c rest ≡ leafBasis (symbols m) (dim k) b coin)))
-
-pub leads-none : (k : ℕ) (t : List ℕ) (coin : ℕ) → length t ≡ cells → Leads k t coin k t coin
-leads-none k t coin e = record { count = e; dimension = refl; right = λ m i b B I. (b, (B, (I, refl))) }
+-- a short word is read whole
+pub leaf-here : (k : ℕ) (t : List ℕ) (coin : ℕ) → k ≤ 6 → LeafTable k t coin k t
+leaf-here k t coin s =
+    record {
+      dimension = sym (leafDim-leaf k coin s);
+      right = λ m i b B I. subst (λ (x : List ℕ). Images (symbols m) x t) (sym (leafBasis-leaf (symbols m) k coin s b)) I;
+    }
 
 -- ---- one line further
 
@@ -60,7 +58,7 @@ length-column-table : (k : ℕ) (t : List ℕ) → length (columnImages k t) ≡
 unfolding columnImages
 length-column-table k t = length-tab cells (λ p. getD t (p + 17 * half k) 0)
 
-length-line-table : (k : ℕ) (t : List ℕ) (l : Line) (r : List ℕ) → length t ≡ cells → LineTable k t l r → length r ≡ cells
+pub length-line-table : (k : ℕ) (t : List ℕ) (l : Line) (r : List ℕ) → length t ≡ cells → LineTable k t l r → length r ≡ cells
 length-line-table k t (Row a) r e T = ap length (T .entries) ∙ length-row-table k t a e
 length-line-table k t (Column a) r e T = ap length (T .entries) ∙ length-column-table k t
 
@@ -73,30 +71,15 @@ module _ (k coin : ℕ) (s : 7 ≤ k) where
   leafBasis-line K b (Row r) e = leafBasis-row k coin s r e K b
   leafBasis-line K b (Column a) e = leafBasis-column k coin s a e K b
 
-pub leads-line : {k : ℕ} {t : List ℕ} {coin j : ℕ} {u : List ℕ} {rest : ℕ} → 7 ≤ j → Leads k t coin j u rest → (v : List ℕ) → LineTable j u (lineOf j rest) v
-    → Leads k t coin (lineDim j (lineOf j rest)) v (bitsLeft j rest)
-leads-line {k} {t} {coin} {j} {u} {rest} s a v T =
+-- else the coin ends where the bits left over end in its line
+pub leaf-line : {k : ℕ} {t : List ℕ} {coin : ℕ} {v : List ℕ} {j : ℕ} {u : List ℕ} → 7 ≤ k → LineTable k t (lineOf k coin) v
+    → LeafTable (lineDim k (lineOf k coin)) v (bitsLeft k coin) j u → LeafTable k t coin j u
+leaf-line {k} {t} {coin} {v} {j} {u} s T a =
     record {
-      count = length-line-table j u (lineOf j rest) v (a .count) T;
-      dimension = sym (leafDim-line j rest s (lineOf j rest) refl) ∙ a .dimension;
+      dimension = a .dimension ∙ sym (leafDim-line k coin s (lineOf k coin) refl);
       right = λ m i b B I.
-          let (c, (C, (J, e))) = a .right m i b B I in (
-            lineBasis (symbols m) j c (lineOf j rest),
-            (
-              line-basis j s (symbols-field m i) c C (lineOf j rest) (line-in-range j rest),
-              (T .right m i c C J, sym (leafBasis-line j rest s (symbols m) c (lineOf j rest) refl) ∙ e),
-            ),
-          );
-    }
-
--- the last space
-pub leads-leaf : {k : ℕ} {t : List ℕ} {coin j : ℕ} {u : List ℕ} {rest : ℕ} → j ≤ 6 → Leads k t coin j u rest → LeafTable k t coin j u
-leads-leaf {k} {t} {coin} {j} {u} {rest} s a =
-    record {
-      dimension = sym (leafDim-leaf j rest s) ∙ a .dimension;
-      right = λ m i b B I.
-          let (c, (C, (J, e))) = a .right m i b B I in
-          subst (λ (x : List ℕ). Images (symbols m) x u) (sym (leafBasis-leaf (symbols m) j rest s c) ∙ e) J;
+          subst (λ (x : List ℕ). Images (symbols m) x u) (sym (leafBasis-line k coin s (symbols m) b (lineOf k coin) refl))
+          (a .right m i (lineBasis (symbols m) k b (lineOf k coin)) (line-basis k s (symbols-field m i) b B (lineOf k coin) (line-in-range k coin)) (T .right m i b B I));
     }
 
 -- ---- the verdict there

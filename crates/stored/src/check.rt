@@ -31,22 +31,21 @@ ghost use Rattle.stored.specs.Bytes.{numbersAt};
 ghost use Rattle.stored.specs.Check.{Laid, Judged};
 ghost use Rattle.stored.specs.Leaf.{LeafTable};
 
-// The space at which a coin ends.
+// The space at which a coin ends: the same is done with the space of the row or column that the
+// coin takes. The dimension falls each time.
 fn leaf_space(s: Space, coin: u64) -> Space
     requires { ⌜ (s .k ≤ maxDim) × (length (s .images) ≡ cells) ⌝ }
     ensures { λ r. ⌜ LeafTable (s .k) (s .images) coin (r .k) (r .images) ⌝ }
 {
-    let mut k = s.k;
-    let mut images = s.images;
-    let mut rest = coin;
-    while 6 < k {
-        let line = lines::line_of(k, rest);
-        let t = spaces::line_images(&images, k, line);
-        images = t;
-        rest = lines::rest_of(k, rest);
-        k = lines::line_dimension(k, line);
+    let k = s.k;
+    let images = s.images;
+    if k <= 6 {
+        return s;
     }
-    Space { k, images }
+    let line = lines::line_of(k, coin);
+    let t = spaces::line_images(&images, k, line);
+    let m = lines::line_dimension(k, line);
+    leaf_space(Space { k: m, images: t }, lines::rest_of(k, coin))
 }
 
 fn no_symbols() -> [u16; 64]
