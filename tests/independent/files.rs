@@ -123,7 +123,7 @@ fn places(t: &mut Tally) {
     t.answers("places of records that bytes follow", wrong[1], &prefix, &[0, 1, 2, 3, 4, 5, 9, 11, 12, 200]);
 }
 
-/// The bytes of both parts and the one past their end; a refused file has empty parts.
+/// The bytes of both parts, and past their end 256 and the number; a refused file has empty parts.
 fn parts(t: &mut Tally) {
     let mut d = Draw(0x6a09e667f3bcc909);
     let (mut wrong, mut refused) = (0, 0);
@@ -133,10 +133,11 @@ fn parts(t: &mut Tally) {
         if round % 2 == 1 {
             spoil(&mut d, &mut f, k);
         }
+        let number = file::read(&f).err().unwrap_or(0) as u32;
         let (word, proof) = file::read(&f).map_or((vec![], vec![]), |x| (x.word, x.proof));
         refused += u64::from(word.is_empty());
         let same = |part: &[u16], byte: &dyn Fn(u64) -> u32| {
-            let right = part.iter().flat_map(|x| x.to_le_bytes()).map(u32::from).chain([256]);
+            let right = part.iter().flat_map(|x| x.to_le_bytes()).map(u32::from).chain([256 + number]);
             right.enumerate().all(|(at, x)| byte(at as u64) == x)
         };
         let right = same(&word, &|at| unsafe { proximity_word_byte(f.as_ptr(), f.len(), at) })

@@ -1,8 +1,12 @@
 -- Answers of the calls on stored files as numbers.
+use mathlib.Core.Path.{_≡_}
+use mathlib.Core.List.{List}
 use Prim.Native.Nat.{ℕ, zero, suc, _+_, _%_}
+use lib.ListN.{getD}
 use Rattle.coins.specs.declared.Counts.{Counts}
 use Rattle.delivery.specs.declared.Made.{Made}
 use Rattle.delivery.specs.declared.Made.the-variants as made
+use Rattle.stored.specs.Reader.{PartTold}
 use Rattle.stored.specs.declared.Outcome.{Outcome}
 use Rattle.stored.specs.declared.Outcome.the-variants as outcome
 
@@ -11,7 +15,7 @@ abbrev pub writtenCode : Outcome → ℕ
 writtenCode outcome.Written = 0
 writtenCode (outcome.Refused n) = n
 
--- how many bytes are written, at most 40000; or 65536 and the number of the refusal
+-- how many bytes are written, at most fileLimit; or 65536 and the number of the refusal
 abbrev pub madeCode : Made → ℕ
 madeCode (made.Written n) = n % 65536
 madeCode (made.Refused n) = 65536 + n
@@ -24,3 +28,7 @@ totalOf c (suc (suc zero)) = c .coins
 totalOf c (suc (suc (suc zero))) = c .rejects
 totalOf c (suc (suc (suc (suc zero)))) = c .most
 totalOf c (suc (suc (suc (suc (suc n))))) = c .off
+
+-- byte `at` of the part of n bytes from p on that the file f gives; past its end 256 and the number of the refusal
+abbrev pub PartByte : List ℕ → ℕ → ℕ → ℕ → ℕ → Type 0
+PartByte f p n at r = (part : List ℕ) × (number : ℕ) × PartTold f p n part number × (r ≡ getD part at (256 + number))

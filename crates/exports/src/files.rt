@@ -3,16 +3,14 @@ use coins::Counts;
 use delivery::Made;
 use stored::Outcome;
 ghost use mathlib.Core.Path.{_≡_};
-ghost use mathlib.Core.List.{List};
-ghost use Prim.Native.Nat.{ℕ, _*_, _^_};
+ghost use Prim.Native.Nat.{_+_, _*_, _^_};
 ghost use lib.ListN.{getD};
 ghost use Rattle.coins.specs.Totals as totals;
 ghost use Rattle.delivery.specs.Message as making;
 ghost use Rattle.proximity.specs.Dim.{S};
 ghost use Rattle.stored.specs.File.{wordAt, proofAt, dimIn};
-ghost use Rattle.stored.specs.Reader.{PartOf};
 ghost use Rattle.stored.specs.Writer.{Wrote};
-ghost use Rattle.exports.specs.Files.{writtenCode, madeCode, totalOf};
+ghost use Rattle.exports.specs.Files.{writtenCode, madeCode, totalOf, PartByte};
 
 fn written_code(o: Outcome) -> u32
     ensures { λ r. ⌜ r ≡ writtenCode o ⌝ }
@@ -77,27 +75,32 @@ pub extern "C" fn proximity_total(file: &[u8], which: u32) -> u64
     total(coins::count(file), which)
 }
 
-fn byte_at(part: &[u8], at: u64) -> u32
-    ensures { λ r. ⌜ r ≡ getD (now (part .entry)) at 256 ⌝ }
+// A byte of a part; past its end 256 and the number that came with the part.
+fn byte_at(part: &[u8], at: u64, number: u8) -> u32
+    ensures { λ r. ⌜ r ≡ getD (now (part .entry)) at (256 + number) ⌝ }
 {
     if at < part.len() as u64 {
         return part[at as usize] as u32;
     }
-    256
+    256 + number as u32
 }
 
-// Byte `at` of the word's part of a stored file, or 256 past its end.
+// Byte `at` of the word's part of a stored file; past its end 256 and the number of the refusal.
 #[no_mangle]
 pub extern "C" fn proximity_word_byte(file: &[u8], at: u64) -> u32
-    ensures { λ r. ⌜ ((p : List ℕ) × PartOf (now (file .entry)) (wordAt (dimIn (now (file .entry)))) (2 * 2 ^ dimIn (now (file .entry))) p × (r ≡ getD p at 256)) ⌝ }
+    ensures { λ r. ⌜ PartByte (now (file .entry)) (wordAt (dimIn (now (file .entry)))) (2 * 2 ^ dimIn (now (file .entry))) at r ⌝ }
 {
-    byte_at(stored::word_part(file), at)
+    let mut number: u8 = 0;
+    let part = stored::word_part(file, &mut number);
+    byte_at(part, at, number)
 }
 
 // The same of the proof's part.
 #[no_mangle]
 pub extern "C" fn proximity_proof_byte(file: &[u8], at: u64) -> u32
-    ensures { λ r. ⌜ ((p : List ℕ) × PartOf (now (file .entry)) (proofAt (dimIn (now (file .entry)))) (2 * S (dimIn (now (file .entry)))) p × (r ≡ getD p at 256)) ⌝ }
+    ensures { λ r. ⌜ PartByte (now (file .entry)) (proofAt (dimIn (now (file .entry)))) (2 * S (dimIn (now (file .entry)))) at r ⌝ }
 {
-    byte_at(stored::proof_part(file), at)
+    let mut number: u8 = 0;
+    let part = stored::proof_part(file, &mut number);
+    byte_at(part, at, number)
 }

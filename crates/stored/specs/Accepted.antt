@@ -1,23 +1,22 @@
 -- What an accepted file holds. Assumes nothing.
 use mathlib.Core.Path.{_≡_, refl, sym, ap, _∙_, subst}
-use mathlib.Core.Logic.{_⊎_, inl, inr}
+use mathlib.Core.Logic.{inl, inr}
 use mathlib.Core.List.{List, [], _∷_, _++_}
 use Prim.Native.Nat.{ℕ, _+_, _*_, _^_, _≤_, _<_}
 use native.Mathlib.Omega.{arith}
 use lib.ListN.{length}
-use Rattle.lists.specs.Answers.{Answers, Passes, Numbered, answers-after, refused-first, answers-one, passes-each}
+use Rattle.lists.specs.Answers.{Answers, Passes, Refuses, Numbered, answers-after, refused-first, not-refused, passes-each}
 use Rattle.field.specs.Binary.{degree}
 use Rattle.field.specs.Calls.{modulus-numbered}
 use Rattle.field.specs.Checks.{modulusChecks, good-passes, not-less}
 use Rattle.space.specs.Ready.{Ready, ready}
-use Rattle.space.specs.Setting.{spanChecks, SettledBy, settingOf}
-use Rattle.space.specs.Sizes.{maxDim}
+use Rattle.space.specs.Setting.{spaceChecks, SettledBy, settingOf}
 use Rattle.space.specs.Sound.{Sound, sound, sound-passes}
 use Rattle.space.specs.declared.Checked.{Checked}
 use Rattle.space.specs.declared.Setting.{Setting}
 use Rattle.proximity.specs.Dim.{S}
 use Rattle.stored.specs.File.{wordRecordAt, wordAt, proofRecordAt, proofAt, fileEnd, modulusIn, dimIn, basisIn}
-use Rattle.stored.specs.Passed.{Head, head-numbered, head-passed, head-passes, length-basis, Held, record-numbered, record-passed, record-passes}
+use Rattle.stored.specs.Passed.{Head, head-numbered, head-passed, head-passes, length-basis, in-range, Held, record-numbered, record-passed, record-passes}
 use Rattle.stored.specs.Reader.{headChecks, basisChecks, settingChecks, wordChecks, proofChecks, symbolChecks, prefixChecks, fileChecks, readOf, noRead, Told}
 use Rattle.stored.specs.declared.Reading.{Reading}
 
@@ -37,15 +36,11 @@ pub setting-numbered : (f : List ℕ) → Numbered (settingChecks f)
 setting-numbered f = (omega arith, (omega arith, (omega arith, (omega arith, (omega arith, (omega arith, (omega arith, tt)))))))
 
 module _ (f : List ℕ) where
-  in-range : Head f → (length (basisIn f) < 3) ⊎ (maxDim < length (basisIn f)) → ⊥
-  in-range t (inl e) = omega (arith, t .low, length-basis f)
-  in-range t (inr e) = omega (arith, t .high, length-basis f)
-
   sound-after : Head f → Passes (basisChecks f) → Sound (modulusIn f) (basisIn f)
   sound-after t p =
       sound (modulusIn f) (basisIn f)
-      (answers-after (modulusChecks (modulusIn f)) (Rattle.space.specs.Setting.basisChecks (modulusIn f) (basisIn f) ++ spanChecks (modulusIn f) (basisIn f)) 0
-      (modulus-numbered (modulusIn f)) (good-passes (modulusIn f) (t .modulus)) (inr (in-range t, p)))
+      (answers-after (modulusChecks (modulusIn f)) (spaceChecks (modulusIn f) (basisIn f)) 0
+      (modulus-numbered (modulusIn f)) (good-passes (modulusIn f) (t .modulus)) (inr (in-range f t, p)))
 
   pub setting-passed : Passes (settingChecks f) → Head f × Sound (modulusIn f) (basisIn f)
   setting-passed p =
@@ -64,6 +59,10 @@ module _ (f : List ℕ) where
   read-setting c (inl (p, z, e)) h =
       (p, e, ready (modulusIn f) (basisIn f) c (inl (sound-passes (modulusIn f) (basisIn f) (setting-passed p .1), z, e)) h)
   read-setting c (inr ((l, a), e)) h = absurd (omega arith)
+
+  pub setting-refuses : (c : Checked) → SettledBy (settingChecks f) (modulusIn f) (basisIn f) c → (c .refusal ≡ 0 → ⊥) → Refuses (settingChecks f) (c .refusal)
+  setting-refuses c (inl (p, z, e)) n = absurd (n z)
+  setting-refuses c (inr (a, e)) n = a
 
   abbrev k : ℕ
   k = dimIn f
@@ -135,10 +134,13 @@ module _ (f : List ℕ) where
     told-accepted (inl t) z = t
     told-accepted (inr ((p, a), e)) z = absurd (omega arith)
 
-    pub told-refused : Told cs f r → (r .refusal ≡ 0 → ⊥) → Passes cs → ⊥
+    pub told-refuses : Told cs f r → (r .refusal ≡ 0 → ⊥) → Refuses cs (r .refusal)
     unfolding readOf
-    told-refused (inl (p, e)) n q = n (ap (λ (x : Reading). x .refusal) e)
-    told-refused (inr ((p, a), e)) n q = n (answers-one cs a q)
+    told-refuses (inl (p, e)) n = absurd (n (ap (λ (x : Reading). x .refusal) e))
+    told-refuses (inr (a, e)) n = a
+
+    pub told-refused : Told cs f r → (r .refusal ≡ 0 → ⊥) → Passes cs → ⊥
+    told-refused t n q = not-refused cs q (told-refuses t n)
 
     pub told-number : (n : ℕ) → 0 < n → Answers cs n → r ≡ noRead n → Told cs f r
     unfolding noRead

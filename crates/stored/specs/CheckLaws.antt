@@ -19,7 +19,7 @@ use Rattle.verifier.specs.Checker.{Answered}
 use Rattle.verifier.specs.Parts.{InSpace, ready-space}
 use Rattle.verifier.specs.declared.Verdict.{Verdict}
 use Rattle.verifier.specs.declared.Verdict.the-variants.{Accept, Reject, Refused}
-use Rattle.stored.specs.Accepted.{Accepted, accepted, prefix-numbered, Places, read-places, told-accepted}
+use Rattle.stored.specs.Accepted.{Accepted, accepted, prefix-numbered, Places, read-places, told-accepted, told-refuses}
 use Rattle.stored.specs.Bytes.{numbersAt}
 use Rattle.stored.specs.Check.{coinChecks, AnsweredFile, Laid, Judged}
 use Rattle.stored.specs.File.{fileEnd, modulusIn, dimIn, basisIn, wordIn, proofIn}
@@ -38,9 +38,7 @@ module _ (f : List ℕ) (coin : ℕ) where
 
   -- a refused file, and a coin out of range
   pub refused-file : (r : Reading) → Told (fileChecks f) f r → (r .refusal ≡ 0 → ⊥) → Refuses (coinChecks f coin) (r .refusal)
-  unfolding readOf
-  refused-file r (inl (p, e)) n = absurd (n (ap (λ (x : Reading). x .refusal) e))
-  refused-file r (inr ((l, a), e)) n = (l, refused-first (fileChecks f) eight (r .refusal) l a)
+  refused-file r t n = let a = told-refuses f (fileChecks f) r t n in (a .0, refused-first (fileChecks f) eight (r .refusal) (a .0) (a .1))
 
   pub refused-coin : Passes (fileChecks f) → 2 ^ R (dimIn f) ≤ coin → Refuses (coinChecks f coin) 8
   refused-coin p h = (omega arith, answers-after (fileChecks f) eight 8 file-numbered p (inl (h, refl)))

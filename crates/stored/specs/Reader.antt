@@ -68,6 +68,6 @@ noRead n = record { refusal = n; setting = noSetting; word = 0; proof = 0; end =
 abbrev pub Told : Checks → List ℕ → Reading → Type 0
 Told cs f r = (Passes cs × (r ≡ readOf f)) ⊎ (Refuses cs (r .refusal) × (r ≡ noRead (r .refusal)))
 
--- the n bytes from p on of an accepted file, and nothing of a refused one
-abbrev pub PartOf : List ℕ → ℕ → ℕ → List ℕ → Type 0
-PartOf f p n part = (Passes (fileChecks f) × (part ≡ take n (drop p f))) ⊎ ((Passes (fileChecks f) → ⊥) × (part ≡ []))
+-- the n bytes from p on of an accepted file, and 0; nothing of a refused one, and the number
+abbrev pub PartTold : List ℕ → ℕ → ℕ → List ℕ → ℕ → Type 0
+PartTold f p n part r = (Passes (fileChecks f) × (part ≡ take n (drop p f)) × (r ≡ 0)) ⊎ (Refuses (fileChecks f) r × (part ≡ []))

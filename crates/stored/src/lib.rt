@@ -11,7 +11,7 @@ use verifier::Verdict;
 ghost use mathlib.Core.Path.{_≡_};
 ghost use Prim.Native.Nat.{_*_, _^_};
 ghost use Rattle.stored.specs.File.{wordAt, proofAt, dimIn};
-ghost use Rattle.stored.specs.Reader.{prefixChecks, fileChecks, noRead, Told, PartOf};
+ghost use Rattle.stored.specs.Reader.{prefixChecks, fileChecks, noRead, Told, PartTold};
 ghost use Rattle.stored.specs.Writer.{Wrote};
 ghost use Rattle.stored.specs.Check.{AnsweredFile};
 ghost use Rattle.proximity.specs.Dim.{S};
@@ -93,36 +93,38 @@ pub fn read(file: &[u8]) -> Reading
     r
 }
 
-// The word's bytes in a stored file, and nothing where the file is refused.
+// The word's bytes in a stored file, and 0; where the file is refused, nothing and the number.
 //
 // Ruled out: the word's record with its mark and count, since the part has 2 * 2^k bytes; a part
-// of a file whose proof has a symbol out of range.
-pub fn word_part(file: &[u8]) -> &[u8]
-    ensures { λ r. ⌜ PartOf (now (file .entry)) (wordAt (dimIn (now (file .entry)))) (2 * 2 ^ dimIn (now (file .entry))) (now r) ⌝ }
+// of a file whose proof has a symbol out of range, since that gets 9 and nothing.
+pub fn word_part<'a>(file: &'a [u8], number: &mut u8) -> &'a [u8]
+    ensures { λ r. ⌜ PartTold (now (file .entry)) (wordAt (dimIn (now (file .entry)))) (2 * 2 ^ dimIn (now (file .entry))) (now r) (now (number .exit)) ⌝ }
 {
     let r = read(file);
-    let number = r.refusal;
+    let early = r.refusal;
     let start = r.word;
     let proof = r.proof;
-    if number != 0 {
+    *number = early;
+    if early != 0 {
         return &file[0..0];
     }
     let end = proof - 6;
     &file[start..end]
 }
 
-// The proof's bytes in a stored file, and nothing where the file is refused.
+// The proof's bytes in a stored file, and 0; where the file is refused, nothing and the number.
 //
-// Ruled out: a part that begins with the word; an empty part for an accepted file of dimension 7,
-// whose proof has 896 symbols.
-pub fn proof_part(file: &[u8]) -> &[u8]
-    ensures { λ r. ⌜ PartOf (now (file .entry)) (proofAt (dimIn (now (file .entry)))) (2 * S (dimIn (now (file .entry)))) (now r) ⌝ }
+// Ruled out: an empty part for an accepted file of dimension 7, whose proof has 896 symbols; a
+// number that is left as it came, since it is 0 or that of the refusal.
+pub fn proof_part<'a>(file: &'a [u8], number: &mut u8) -> &'a [u8]
+    ensures { λ r. ⌜ PartTold (now (file .entry)) (proofAt (dimIn (now (file .entry)))) (2 * S (dimIn (now (file .entry)))) (now r) (now (number .exit)) ⌝ }
 {
     let r = read(file);
-    let number = r.refusal;
+    let refusal = r.refusal;
     let start = r.proof;
     let end = r.end;
-    if number != 0 {
+    *number = refusal;
+    if refusal != 0 {
         return &file[0..0];
     }
     &file[start..end]

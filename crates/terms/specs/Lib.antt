@@ -12,5 +12,6 @@ pub mod Settings
 pub mod CaseVerdicts
 pub mod Cases
 pub mod Files
+pub mod Parts
 pub mod Counts
 pub mod Deliveries

@@ -6,7 +6,7 @@ use Prim.Native.Nat.{ℕ, _*_, _-_}
 use native.Mathlib.Omega.{arith}
 use lib.ListN.{take, drop}
 use Rattle.proximity.specs.Dim.{S}
-use Rattle.stored.specs.Accepted.{told-accepted, told-refused, Places, read-places}
+use Rattle.stored.specs.Accepted.{told-accepted, told-refuses, Places, read-places}
 use Rattle.stored.specs.File.{dimIn}
 use Rattle.stored.specs.Reader.{fileChecks}
 use borrow.Author.Needs.{needs}
@@ -29,7 +29,7 @@ returns : tie.Need-returns
 returns c =
     let t = c .before .before in
     let f = t .before .before .args .file .now in
-    inr (told-refused f (fileChecks f) (t .read .result) (t .read .ensures) (c .before .if1 .taken), refl)
+    inr (told-refuses f (fileChecks f) (t .read .result) (t .read .ensures) (c .before .if1 .taken), refl)
 
 -- the file is accepted
 module _ (c : tie.Else1) where
@@ -58,6 +58,7 @@ returns-2 c =
     inl (
       told-accepted f (fileChecks f) (r .result) (r .ensures) (e .if1 .left) .0,
       ap₂ (λ (n s : ℕ). take n (drop s f)) count (p .proof),
+      e .if1 .left,
     )
 
 pub proof-part-spec : {M : Type 1} → statement M

@@ -1,18 +1,17 @@
 -- `stored::read_prefix` meets its contract. Assumes nothing.
 use mathlib.Core.Path.{_≡_, _∙_, subst}
-use mathlib.Core.Logic.{inl, inr}
+use mathlib.Core.Logic.{inl}
 use mathlib.Core.List.{List}
 use Prim.Native.Nat.{ℕ, _*_, _%_, _^_, _≤_}
 use native.Mathlib.Omega.{arith}
-use Rattle.lists.specs.Answers.{Answers, Passes, Refuses, answers-after, refused-first}
+use Rattle.lists.specs.Answers.{Answers, Passes, answers-after, refused-first}
 use Rattle.field.specs.Binary.{degree}
 use Rattle.space.specs.Ready.{Ready}
-use Rattle.space.specs.Setting.{SettledBy, settingOf}
+use Rattle.space.specs.Setting.{settingOf}
 use Rattle.space.specs.Sizes.{maxDim}
-use Rattle.space.specs.declared.Checked.{Checked}
 use Rattle.space.specs.declared.Setting.{Setting}
 use Rattle.proximity.specs.LineLaws.{S-small}
-use Rattle.stored.specs.Accepted.{setting-numbered, setting-passed, read-setting, told-number, read-made}
+use Rattle.stored.specs.Accepted.{setting-numbered, setting-passed, setting-refuses, read-setting, told-number, read-made}
 use Rattle.stored.specs.File.{modulusIn, dimIn, basisIn}
 use Rattle.stored.specs.Passed.{Head, length-basis}
 use Rattle.stored.specs.Reader.{settingChecks, symbolChecks, prefixChecks}
@@ -20,11 +19,6 @@ use Rattle.stored.proofs.Laws.{word-count}
 use borrow.Author.Needs.{needs}
 use Rattle.stored.proofs.read_prefix.Statement.{statement}
 use Rattle.stored.proofs.read_prefix.Tie as tie
-
--- a refused setting
-early : (f : List ℕ) (c : Checked) → SettledBy (settingChecks f) (modulusIn f) (basisIn f) c → (c .refusal ≡ 0 → ⊥) → Refuses (settingChecks f) (c .refusal)
-early f c (inl (p, z, e)) n = absurd (n z)
-early f c (inr (a, e)) n = a
 
 setting-of-requires : tie.Need-setting-of-requires
 setting-of-requires c κs = search needs
@@ -36,7 +30,7 @@ returns : tie.Need-returns
 returns c =
     let s = c .before .before .before in
     let f = s .before .before .args .file .now in
-    let a = early f (s .setting-of .result) (s .setting-of .ensures) (c .before .if1 .taken) in
+    let a = setting-refuses f (s .setting-of .result) (s .setting-of .ensures) (c .before .if1 .taken) in
     told-number f (prefixChecks f) (c .refused .result) (s .setting-of .result .refusal) (a .0)
     (refused-first (settingChecks f) (symbolChecks f (dimIn f) (degree (modulusIn f))) (s .setting-of .result .refusal) (a .0) (a .1)) (c .refused .ensures)
 
@@ -61,7 +55,7 @@ module _ (c : tie.Else1) where
   few = omega (arith, dimension, head .high)
 
   -- 2^k, as it is computed
-  count : (1 * 2 ^ found .space .k % 18446744073709551616 ≡ 2 ^ found .space .k) × (2 ^ found .space .k ≤ 4096)
+  count : (1 * 2 ^ found .space .k % 18446744073709551616 ≡ 2 ^ found .space .k) × (2 ^ found .space .k ≤ 2 ^ maxDim)
   count = word-count (found .space .k) few
 
 symbols-refusal-requires : tie.Need-symbols-refusal-requires

@@ -1,16 +1,14 @@
 -- `delivery::checks::refusal` meets its contract. Assumes nothing.
 use mathlib.Core.Path.{_≡_, _∙_, subst}
-use mathlib.Core.Logic.{inl, inr}
 use mathlib.Core.List.{List}
 use Prim.Native.Nat.{ℕ}
 use native.Mathlib.Omega.{arith}
-use Rattle.lists.specs.Answers.{Checks, Answers, Passes, Refuses}
+use Rattle.lists.specs.Answers.{Answers, Passes}
 use Rattle.field.specs.Binary.{degree}
 use Rattle.space.specs.Ready.{Ready}
-use Rattle.space.specs.Setting.{SettledBy, settingOf}
-use Rattle.space.specs.declared.Checked.{Checked}
+use Rattle.space.specs.Setting.{settingOf}
 use Rattle.space.specs.declared.Setting.{Setting}
-use Rattle.stored.specs.Accepted.{setting-passed, read-setting}
+use Rattle.stored.specs.Accepted.{setting-passed, setting-refuses, read-setting}
 use Rattle.stored.specs.File.{modulusIn, dimIn, basisIn}
 use Rattle.stored.specs.Passed.{Head, length-basis}
 use Rattle.stored.specs.Reader.{settingChecks}
@@ -20,11 +18,6 @@ use borrow.Author.Needs.{needs}
 use Rattle.delivery.proofs.checks.refusal.Statement.{statement}
 use Rattle.delivery.proofs.checks.refusal.Tie as tie
 
--- a refused setting
-refused : (cs : Checks) (m : ℕ) (bs : List ℕ) (c : Checked) → SettledBy cs m bs c → (c .refusal ≡ 0 → ⊥) → Refuses cs (c .refusal)
-refused cs m bs c (inl (p, z, e)) n = absurd (n z)
-refused cs m bs c (inr (a, e)) n = a
-
 setting-of-requires : tie.Need-setting-of-requires
 setting-of-requires c κs = search needs
 
@@ -32,7 +25,7 @@ returns : tie.Need-returns
 returns c =
     let s = c .before .before in
     let a = s .before .before .args in
-    let r = refused (settingChecks (a .message .now)) (modulusIn (a .message .now)) (basisIn (a .message .now)) (s .setting-of .result) (s .setting-of .ensures) (c .if1 .taken) in
+    let r = setting-refuses (a .message .now) (s .setting-of .result) (s .setting-of .ensures) (c .if1 .taken) in
     setting-refused (a .message .now) (a .room) (s .setting-of .result .refusal) (r .0) (r .1)
 
 -- the setting passed

@@ -1,7 +1,7 @@
 -- `exports::files::byte_at` meets its contract. Assumes nothing.
 use mathlib.Core.Path.{_≡_, refl, sym}
 use mathlib.Core.List.{List, [], _∷_}
-use Prim.Native.Nat.{ℕ, zero, suc, _<_}
+use Prim.Native.Nat.{ℕ, zero, suc, _+_, _<_}
 use native.Mathlib.Omega.{arith}
 use lib.ListN.{length, getD, List·getD-eq-default}
 use borrow.Author.Needs.{needs}
@@ -21,10 +21,10 @@ cast-result : tie.Need-cast-result
 cast-result c = omega (arith, c .shared-slice-known .given (c .before .before .args .at))
 
 returns : tie.Need-returns
-returns c = let a = c .before .before .args in inside (a .part .now) (a .at) 0 256 (c .before .if1 .taken)
+returns c = let a = c .before .before .args in inside (a .part .now) (a .at) 0 (256 + a .number) (c .before .if1 .taken)
 
 returns-2 : tie.Need-returns-2
-returns-2 c = let a = c .before .args in sym (List·getD-eq-default (a .part .now) 256 {n = a .at} (c .if1 .left))
+returns-2 c = let a = c .before .args in sym (List·getD-eq-default (a .part .now) (256 + a .number) {n = a .at} (c .if1 .left))
 
 pub byte-at-spec : {M : Type 1} → statement M
 byte-at-spec = tie.close (tie.spec shared-slice-read-result cast-result returns returns-2)
