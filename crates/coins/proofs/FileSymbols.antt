@@ -1,4 +1,4 @@
--- The symbols of an accepted file of at most 40000 bytes. Assumes nothing.
+-- The symbols of an accepted file within the limit. Assumes nothing.
 use mathlib.Core.Path.{_≡_, sym, ap, ap₂, _∙_, subst, transport}
 use mathlib.Core.List.{List, _++_}
 use Prim.Native.Nat.{ℕ, _+_, _*_, _%_, _^_, _≤_}
@@ -17,7 +17,7 @@ use Rattle.transform.specs.Blocks.{InBlocks}
 use Rattle.stored.specs.Accepted.{accepted, read-places}
 use Rattle.stored.specs.Bytes.{twoAt, numbersAt}
 use Rattle.stored.specs.CheckLaws.{read-passes, read-ready, read-dimension, read-space, read-images, read-below}
-use Rattle.stored.specs.File.{modulusIn, dimIn, basisIn, wordIn}
+use Rattle.stored.specs.File.{fileLimit, smallDim, modulusIn, dimIn, basisIn, wordIn}
 use Rattle.stored.specs.Reader.{fileChecks}
 use Rattle.stored.specs.Short.{short-proof, short-file}
 use Rattle.stored.specs.declared.Reading.{Reading}
@@ -38,8 +38,8 @@ module _ (f : List ℕ) (at n : ℕ) (old new : List ℕ) (h : n ≤ length old)
   pub front-numbers : {m : ℕ} → n ≡ m → take m (new ++ drop n old) ≡ numbersAt f at m
   front-numbers {m} g = take-at new (drop n old) m (long ∙ g) ∙ e ∙ ap (numbersAt f at) (part ∙ g)
 
--- the dimension is at most 8
-pub small-dimension : (f : List ℕ) → Passes (fileChecks f) → length f ≤ 40000 → dimIn f ≤ 8
+-- the dimension is small
+pub small-dimension : (f : List ℕ) → Passes (fileChecks f) → length f ≤ fileLimit → dimIn f ≤ smallDim
 small-dimension f p h = let a = accepted f p in short-file (dimIn f) (a .records .head .high) (omega (arith, a .whole))
 
 -- the number of symbols, as it is computed
@@ -50,21 +50,21 @@ module _ (f : List ℕ) (r : Reading) (a : Readable f r) where
   abbrev k : ℕ
   k = r .setting .space .k
 
-  pub small : length f ≤ 40000 → k ≤ 8
+  pub small : length f ≤ fileLimit → k ≤ smallDim
   small h = omega (arith, read-dimension f r (a .0) (a .1), small-dimension f (read-passes f r (a .0) (a .1)) h)
 
-  module _ (h : length f ≤ 40000) where
+  module _ (h : length f ≤ fileLimit) where
     pub count-is : symbolCount k ≡ 2 ^ k
     count-is = one-shifted k (omega (arith, small h))
 
-    pub few-symbols : symbolCount k ≤ 256
-    few-symbols = omega (arith, count-is, pow-mono {i = k} {j = 8} (small h))
+    pub few-symbols : symbolCount k ≤ 2 ^ smallDim
+    few-symbols = omega (arith, count-is, pow-mono {i = k} {j = smallDim} (small h))
 
     -- the word in the first places of a list
     pub word-front : (xs : List ℕ) → take (2 ^ k) xs ≡ numbersAt f (r .word) (2 ^ k) → take (symbolCount k) xs ≡ numbersAt f (r .word) (2 ^ k)
     word-front xs e = ap (λ (i : ℕ). take i xs) count-is ∙ e
 
-    pub short : S k ≤ 16128
+    pub short : S k ≤ S smallDim
     short = short-proof k (small h)
 
     pub word-blocks : (w : List ℕ) → w ≡ numbersAt f (r .word) (2 ^ k) → InBlocks (r .setting .field) (r .setting .space .images) k w

@@ -19,10 +19,10 @@ use Rattle.proximity.specs.Dim.{dim, S, R}
 use Rattle.proximity.specs.Verdict.{verdict}
 use Rattle.proximity.specs.Verifier.{Accepts, positions}
 use Rattle.verifier.specs.Checker.{symbolsAt, readsOf}
-use Rattle.stored.specs.Accepted.{Accepted, accepted}
+use Rattle.stored.specs.Accepted.{Accepted, accepted, told-refuses}
 use Rattle.stored.specs.Bytes.{twoAt}
 use Rattle.stored.specs.CheckLaws.{coin-passes}
-use Rattle.stored.specs.File.{wordAt, proofAt, modulusIn, dimIn, basisIn, wordIn, proofIn}
+use Rattle.stored.specs.File.{fileLimit, wordAt, proofAt, modulusIn, dimIn, basisIn, wordIn, proofIn}
 use Rattle.stored.specs.Leaf.{symbols-below}
 use Rattle.stored.specs.Passed.{length-basis}
 use Rattle.stored.specs.Reader.{fileChecks}
@@ -41,14 +41,12 @@ module _ (f : List ℕ) (r : Counts) where
       let same : r .refusal ≡ n = ap (λ (x : Counts). x .refusal) e in
       inr ((omega arith, subst (Answers (countChecks f)) (sym same) a), e ∙ ap noCounts (sym same))
 
-  pub told-long : 40000 < length f → r ≡ noCounts 6 → Told f r
+  pub told-long : fileLimit < length f → r ≡ noCounts 6 → Told f r
   told-long h e = told-number 6 (omega arith) (inl (h, refl)) e
 
-  module _ (h : length f ≤ 40000) where
+  module _ (h : length f ≤ fileLimit) where
     pub told-refused : (s : Reading) → Rattle.stored.specs.Reader.Told (fileChecks f) f s → (s .refusal ≡ 0 → ⊥) → r ≡ noCounts (s .refusal) → Told f r
-    unfolding Rattle.stored.specs.Reader.readOf
-    told-refused s (inl (p, e)) n g = absurd (n (ap (λ (x : Reading). x .refusal) e))
-    told-refused s (inr ((l, a), e)) n g = told-number (s .refusal) l (inr ((λ k. omega arith), a)) g
+    told-refused s t n g = let a = told-refuses f (fileChecks f) s t n in told-number (s .refusal) (a .0) (inr ((λ k. omega arith), a .1)) g
 
     pub told-totals : Passes (fileChecks f) → r .refusal ≡ 0 → Totals f r → Told f r
     told-totals p z t = inl (inr ((λ k. omega arith), p), z, t)

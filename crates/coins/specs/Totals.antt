@@ -17,7 +17,7 @@ use Rattle.proximity.specs.Dim.{R}
 use Rattle.verifier.specs.Checker.{readsOf}
 use Rattle.verifier.specs.declared.Verdict.the-variants.{Reject}
 use Rattle.stored.specs.Check.{AnsweredFile}
-use Rattle.stored.specs.File.{modulusIn, dimIn, basisIn, wordIn}
+use Rattle.stored.specs.File.{fileLimit, modulusIn, dimIn, basisIn, wordIn}
 use Rattle.stored.specs.Reader.{fileChecks}
 use Rattle.coins.specs.Counted.{Counted}
 use Rattle.coins.specs.declared.Counts.{Counts}
@@ -57,7 +57,7 @@ module _ (K : Ops) (k : ℕ) (b w : List ℕ) where
 
 -- 6, and then the file's checks in their order
 abbrev pub countChecks : List ℕ → Checks
-countChecks f = (6, 40000 < length f) ∷ fileChecks f
+countChecks f = (6, fileLimit < length f) ∷ fileChecks f
 
 -- the dimension, 2^R, the rejecting coins, the most symbols that a coin read, and the positions off
 pub record Totals (f : List ℕ) (r : Counts) : Type 0 where

@@ -31,14 +31,14 @@ fn refused(number: u8) -> Counts
     }
 }
 
-// Tries all coins of a stored file of at most 40000 bytes: check 6, the file's checks, the totals.
+// Tries all coins of a stored file within the limit: check 6, the file's checks, the totals.
 //
 // Ruled out: a reject count that is not the number of coins whose verdict is reject; 11 or 12 for a
-// file of more than 40000 bytes, since that gets 6 first.
+// file above the limit, since that gets 6 first.
 pub fn count(file: &[u8]) -> Counts
     ensures { λ r. ⌜ Told (now (file .entry)) r ⌝ }
 {
-    if 40000 < file.len() {
+    if stored::FILE_LIMIT < file.len() {
         return refused(6);
     }
     let r = stored::read(file);

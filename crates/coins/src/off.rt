@@ -1,19 +1,20 @@
-// At how many positions a word of at most 256 symbols differs from the polynomial through its first
-// eighth.
-use super::symbols::no_word;
+// At how many positions a word of dimension at most SMALL differs from the polynomial through its
+// first eighth.
 use field::Field;
 use space::CELLS;
 use space::Setting;
+use stored::small;
 use transform::blocks::evaluate_blocks;
 use transform::blocks::is_codeword;
 ghost use mathlib.Core.Path.{_≡_};
 ghost use mathlib.Core.List.{List};
-ghost use Prim.Native.Nat.{ℕ, _*_, _≤_};
+ghost use Prim.Native.Nat.{ℕ, _*_, _^_, _≤_};
 ghost use lib.ListN.{length};
 ghost use Rattle.field.specs.Symbols.{symbols};
 ghost use Rattle.poly.specs.Codeword.{Basis};
 ghost use Rattle.space.specs.Images.{Images};
 ghost use Rattle.transform.specs.Blocks.{InBlocks};
+ghost use Rattle.stored.specs.File.{smallDim};
 ghost use Rattle.coins.specs.Lanes.{firstLane, inOrder};
 ghost use Rattle.coins.specs.Totals.{differences, Off};
 
@@ -58,13 +59,13 @@ fn off_first(f: Field, images: &[u16; CELLS], k: usize, word: &[u16], lanes: &mu
 
 // The same for a word in a setting.
 pub fn off(setting: Setting, word: &[u16]) -> usize
-    requires { ⌜ InBlocks (setting .field) (setting .space .images) (setting .space .k) (now word) × (length (now word) ≤ 256) ⌝ }
+    requires { ⌜ InBlocks (setting .field) (setting .space .images) (setting .space .k) (now word) × (length (now word) ≤ 2 ^ smallDim) ⌝ }
     ensures { λ n. ⌜ ((b : List ℕ) → Basis (symbols (setting .field .modulus)) (setting .space .k) b → Images (symbols (setting .field .modulus)) b (setting .space .images) → Off (symbols (setting .field .modulus)) (setting .space .k) b (now (word .entry)) n) ⌝ }
 {
     let f = setting.field;
     let images = setting.space.images;
     let k = setting.space.k;
     let n = word.len();
-    let mut lanes = no_word();
+    let mut lanes = small::no_word();
     off_first(f, &images, k, word, &mut lanes[..n])
 }

@@ -1,25 +1,17 @@
-// The symbols of an accepted file of at most 40000 bytes, whose dimension is at most 8.
+// The symbols of an accepted file within the limit, whose dimension is at most SMALL.
 use proximity::tables;
 use stored::Reading;
+use stored::SMALL;
+use stored::SMALL_PROOF;
 use stored::bytes::two_at;
+use stored::small;
 ghost use mathlib.Core.Path.{_≡_};
 ghost use Prim.Native.Nat.{_+_, _*_, _^_, _≤_};
 ghost use lib.ListN.{length, take};
 ghost use Rattle.proximity.specs.Dim.{S};
 ghost use Rattle.stored.specs.Bytes.{numbersAt};
+ghost use Rattle.stored.specs.File.{fileLimit, smallDim};
 ghost use Rattle.coins.specs.Tally.{Readable};
-
-pub fn no_word() -> [u16; 256]
-    ensures { λ r. ⌜ length r ≡ 256 ⌝ }
-{
-    [0u16; 256]
-}
-
-fn no_proof() -> [u16; 16128]
-    ensures { λ r. ⌜ length r ≡ 16128 ⌝ }
-{
-    [0u16; 16128]
-}
 
 // The numbers from index at on.
 fn numbers_at(file: &[u8], at: usize, out: &mut [u16])
@@ -34,25 +26,25 @@ fn numbers_at(file: &[u8], at: usize, out: &mut [u16])
 }
 
 // The word, in the first 2^k places.
-pub fn word_of(file: &[u8], r: Reading) -> [u16; 256]
-    requires { ⌜ Readable (now file) r × (length (now file) ≤ 40000) ⌝ }
-    ensures { λ w. ⌜ (length w ≡ 256) × (take (2 ^ r .setting .space .k) w ≡ numbersAt (now (file .entry)) (r .word) (2 ^ r .setting .space .k)) ⌝ }
+pub fn word_of(file: &[u8], r: Reading) -> [u16; 1 << SMALL]
+    requires { ⌜ Readable (now file) r × (length (now file) ≤ fileLimit) ⌝ }
+    ensures { λ w. ⌜ (length w ≡ 2 ^ smallDim) × (take (2 ^ r .setting .space .k) w ≡ numbersAt (now (file .entry)) (r .word) (2 ^ r .setting .space .k)) ⌝ }
 {
     let at = r.word;
     let n = 1usize << r.setting.space.k;
-    let mut word = no_word();
+    let mut word = small::no_word();
     numbers_at(file, at, &mut word[..n]);
     word
 }
 
 // The proof, in the first S(k) places.
-pub fn proof_of(file: &[u8], r: Reading) -> [u16; 16128]
-    requires { ⌜ Readable (now file) r × (length (now file) ≤ 40000) ⌝ }
-    ensures { λ p. ⌜ (length p ≡ 16128) × (take (S (r .setting .space .k)) p ≡ numbersAt (now (file .entry)) (r .proof) (S (r .setting .space .k))) ⌝ }
+pub fn proof_of(file: &[u8], r: Reading) -> [u16; SMALL_PROOF]
+    requires { ⌜ Readable (now file) r × (length (now file) ≤ fileLimit) ⌝ }
+    ensures { λ p. ⌜ (length p ≡ S smallDim) × (take (S (r .setting .space .k)) p ≡ numbersAt (now (file .entry)) (r .proof) (S (r .setting .space .k))) ⌝ }
 {
     let at = r.proof;
     let s = tables::proof_length(r.setting.space.k);
-    let mut proof = no_proof();
+    let mut proof = small::no_proof();
     numbers_at(file, at, &mut proof[..s]);
     proof
 }

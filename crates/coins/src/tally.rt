@@ -10,7 +10,7 @@ ghost use Prim.Native.Nat.{_^_, _≤_, max};
 ghost use lib.ListN.{length};
 ghost use Rattle.field.specs.Symbols.{symbols};
 ghost use Rattle.stored.specs.Bytes.{numbersAt};
-ghost use Rattle.stored.specs.File.{modulusIn, dimIn, basisIn, wordIn};
+ghost use Rattle.stored.specs.File.{fileLimit, modulusIn, dimIn, basisIn, wordIn};
 ghost use Rattle.coins.specs.Tally.{rejectsIn, readsIn, Readable};
 ghost use Rattle.coins.specs.Totals.{Off, Totals};
 
@@ -45,9 +45,9 @@ fn larger(a: usize, b: usize) -> usize
     a
 }
 
-// The totals of an accepted file of at most 40000 bytes, its word decoded.
+// The totals of an accepted file within the limit, its word decoded.
 pub fn totals(file: &[u8], r: Reading, word: &[u16], off: usize) -> Counts
-    requires { ⌜ Readable (now file) r × (length (now file) ≤ 40000) × (now word ≡ numbersAt (now file) (r .word) (2 ^ r .setting .space .k)) × Off (symbols (modulusIn (now file))) (dimIn (now file)) (basisIn (now file)) (wordIn (now file)) off ⌝ }
+    requires { ⌜ Readable (now file) r × (length (now file) ≤ fileLimit) × (now word ≡ numbersAt (now file) (r .word) (2 ^ r .setting .space .k)) × Off (symbols (modulusIn (now file))) (dimIn (now file)) (basisIn (now file)) (wordIn (now file)) off ⌝ }
     ensures { λ t. ⌜ (t .refusal ≡ 0) × Totals (now (file .entry)) t ⌝ }
 {
     let setting = r.setting;

@@ -9,7 +9,7 @@ use Rattle.field.specs.Binary.{degree}
 use Rattle.field.specs.Symbols.{symbols}
 use Rattle.poly.specs.Codeword.{wordOf}
 use Rattle.stored.specs.Bytes.{numbersAt}
-use Rattle.stored.specs.File.{fileOf, fileEnd, modulusIn, dimIn, basisIn}
+use Rattle.stored.specs.File.{fileOf, fileEnd, fileLimit, modulusIn, dimIn, basisIn}
 use Rattle.stored.specs.Reader.{settingChecks, recordChecks}
 use Rattle.prover.specs.Calls.{ProofOf}
 use Rattle.delivery.specs.declared.Made.{Made}
@@ -36,9 +36,9 @@ wordFrom t = wordOf (symbols (modulusIn t)) (length (basisIn t)) (basisIn t) (co
 
 -- ---- the checks, front to back
 
--- 6: the stored file exceeds 40000 bytes, or the room
+-- 6: the stored file exceeds the limit, or the room
 abbrev pub roomChecks : ℕ → ℕ → Checks
-roomChecks k room = (6, (40000 < fileEnd k) ⊎ (room < fileEnd k)) ∷ []
+roomChecks k room = (6, (fileLimit < fileEnd k) ⊎ (room < fileEnd k)) ∷ []
 
 -- the coefficient record, mark hex 43 4F (11, 12, 11, 9), and nothing after it (12)
 abbrev pub coefficientChecks : List ℕ → ℕ → ℕ → Checks

@@ -11,7 +11,7 @@ use Rattle.field.specs.Binary.{degree}
 use Rattle.field.specs.Checks.{not-less}
 use Rattle.stored.specs.Accepted.{setting-numbered, setting-passed}
 use Rattle.stored.specs.Bytes.{twoAt}
-use Rattle.stored.specs.File.{fileEnd, modulusIn, dimIn, basisIn}
+use Rattle.stored.specs.File.{fileEnd, fileLimit, modulusIn, dimIn, basisIn}
 use Rattle.stored.specs.Passed.{length-basis, record-numbered, record-passed}
 use Rattle.stored.specs.Reader.{settingChecks, recordChecks}
 use Rattle.stored.specs.Short.{short-file}
@@ -24,14 +24,14 @@ module _ (k room : ℕ) where
   pub room-numbered : Numbered (roomChecks k room)
   room-numbered = (omega arith, tt)
 
-  pub room-right : fileEnd k ≤ 40000 → fileEnd k ≤ room → Passes (roomChecks k room)
+  pub room-right : fileEnd k ≤ fileLimit → fileEnd k ≤ room → Passes (roomChecks k room)
   room-right a b = inr (neither, refl)
     where
-      neither : (40000 < fileEnd k) ⊎ (room < fileEnd k) → ⊥
+      neither : (fileLimit < fileEnd k) ⊎ (room < fileEnd k) → ⊥
       neither (inl h) = omega arith
       neither (inr h) = omega arith
 
-  pub room-passed : Passes (roomChecks k room) → (fileEnd k ≤ 40000) × (fileEnd k ≤ room)
+  pub room-passed : Passes (roomChecks k room) → (fileEnd k ≤ fileLimit) × (fileEnd k ≤ room)
   room-passed (inl a) = absurd (omega arith)
   room-passed (inr (n, z)) = (not-less (λ h. n (inl h)), not-less (λ h. n (inr h)))
 

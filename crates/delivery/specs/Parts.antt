@@ -8,15 +8,15 @@ use Rattle.field.specs.Binary.{degree}
 use Rattle.field.specs.Symbols.{symbols}
 use Rattle.poly.specs.Codeword.{wordOf}
 use Rattle.space.specs.Sound.{Sound}
-use Rattle.stored.specs.File.{fileOf, modulusIn, dimIn, basisIn}
+use Rattle.stored.specs.File.{fileOf, smallDim, modulusIn, dimIn, basisIn}
 use Rattle.stored.specs.Passed.{Head, Held}
 use Rattle.prover.specs.Calls.{ProofOf}
 use Rattle.delivery.specs.Message.{coefficientRecordAt}
 
--- a sound setting whose stored file has at most 40000 bytes
+-- a sound setting whose stored file is within the limit
 pub record Small (m : ℕ) (bs : List ℕ) : Type 0 where
   pub sound : Sound m bs
-  pub few : length bs ≤ 8
+  pub few : length bs ≤ smallDim
 
 -- n/8 coefficients
 pub record Coefficients (m : ℕ) (bs xs : List ℕ) : Type 0 where

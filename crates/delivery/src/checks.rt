@@ -28,7 +28,7 @@ fn room_refusal(k: usize, room: usize) -> u8
     ensures { λ r. ⌜ Answers (roomChecks k room) r ⌝ }
 {
     let end = file_end(k);
-    if 40000 < end {
+    if stored::FILE_LIMIT < end {
         return 6;
     }
     if room < end {

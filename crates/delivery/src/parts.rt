@@ -1,47 +1,39 @@
 // The word, the proof and the stored file, of a message that passed its checks.
 use novel::convert::power;
 use proximity::tables;
+use stored::SMALL;
+use stored::SMALL_PROOF;
 use stored::bytes;
+use stored::small;
 ghost use mathlib.Core.Path.{_≡_};
-ghost use Prim.Native.Nat.{_+_, _*_, _^_, _≤_};
+ghost use Prim.Native.Nat.{_+_, _*_, _-_, _^_, _≤_};
 ghost use lib.ListN.{length, take};
 ghost use Rattle.field.specs.Symbols.{symbols};
 ghost use Rattle.poly.specs.Codeword.{wordOf, Codeword};
 ghost use Rattle.proximity.specs.Dim.{S};
+ghost use Rattle.codec.specs.Scratch.{scratchFor};
 ghost use Rattle.prover.specs.Calls.{ProofOf};
 ghost use Rattle.stored.specs.Bytes.{numbersAt};
-ghost use Rattle.stored.specs.File.{fileEnd, dimIn, modulusIn, basisIn};
+ghost use Rattle.stored.specs.File.{fileEnd, smallDim, dimIn, modulusIn, basisIn};
 ghost use Rattle.delivery.specs.Message.{coefficientsIn};
 ghost use Rattle.delivery.specs.Parts.{Small, Coefficients, Passed, StoredFile};
 
-fn no_numbers() -> [u16; 32]
-    ensures { λ r. ⌜ length r ≡ 32 ⌝ }
+fn no_numbers() -> [u16; 1 << (SMALL - 3)]
+    ensures { λ r. ⌜ length r ≡ 2 ^ (smallDim - 3) ⌝ }
 {
-    [0u16; 32]
+    [0u16; 1 << (SMALL - 3)]
 }
 
-fn no_word() -> [u16; 256]
-    ensures { λ r. ⌜ length r ≡ 256 ⌝ }
+fn no_scratch() -> [u16; codec::SCRATCH << SMALL]
+    ensures { λ r. ⌜ length r ≡ scratchFor smallDim ⌝ }
 {
-    [0u16; 256]
-}
-
-fn no_proof() -> [u16; 16128]
-    ensures { λ r. ⌜ length r ≡ 16128 ⌝ }
-{
-    [0u16; 16128]
-}
-
-fn no_scratch() -> [u16; 1024]
-    ensures { λ r. ⌜ length r ≡ 1024 ⌝ }
-{
-    [0u16; 1024]
+    [0u16; codec::SCRATCH << SMALL]
 }
 
 // The first count two-byte numbers from index at on.
-fn numbers_at(message: &[u8], at: usize, count: usize) -> [u16; 32]
-    requires { ⌜ (count ≤ 32) × (at + 2 * count ≤ length (now message)) ⌝ }
-    ensures { λ r. ⌜ (length r ≡ 32) × (take count r ≡ numbersAt (now (message .entry)) at count) ⌝ }
+fn numbers_at(message: &[u8], at: usize, count: usize) -> [u16; 1 << (SMALL - 3)]
+    requires { ⌜ (count ≤ 2 ^ (smallDim - 3)) × (at + 2 * count ≤ length (now message)) ⌝ }
+    ensures { λ r. ⌜ (length r ≡ 2 ^ (smallDim - 3)) × (take count r ≡ numbersAt (now (message .entry)) at count) ⌝ }
 {
     let mut out = no_numbers();
     let mut i = 0;
@@ -53,24 +45,24 @@ fn numbers_at(message: &[u8], at: usize, count: usize) -> [u16; 32]
 }
 
 // The word of the coefficients, in the first 2^k places.
-fn word_of(modulus: u32, basis: &[u16], coefficients: &[u16]) -> [u16; 256]
+fn word_of(modulus: u32, basis: &[u16], coefficients: &[u16]) -> [u16; 1 << SMALL]
     requires { ⌜ Small modulus (now basis) × Coefficients modulus (now basis) (now coefficients) ⌝ }
-    ensures { λ r. ⌜ (length r ≡ 256) × (take (2 ^ length (now (basis .entry))) r ≡ wordOf (symbols modulus) (length (now (basis .entry))) (now (basis .entry)) (now (coefficients .entry))) ⌝ }
+    ensures { λ r. ⌜ (length r ≡ 2 ^ smallDim) × (take (2 ^ length (now (basis .entry))) r ≡ wordOf (symbols modulus) (length (now (basis .entry))) (now (basis .entry)) (now (coefficients .entry))) ⌝ }
 {
     let n = power(basis.len());
-    let mut word = no_word();
+    let mut word = small::no_word();
     let mut scratch = no_scratch();
     codec::encode(modulus, basis, coefficients, &mut word[..n], &mut scratch);
     word
 }
 
 // The proof of a codeword, in the first S(k) places.
-fn proof_of(modulus: u32, basis: &[u16], word: &[u16]) -> [u16; 16128]
+fn proof_of(modulus: u32, basis: &[u16], word: &[u16]) -> [u16; SMALL_PROOF]
     requires { ⌜ Small modulus (now basis) × Codeword (symbols modulus) (length (now basis)) (now basis) (now word) ⌝ }
-    ensures { λ r. ⌜ (length r ≡ 16128) × ProofOf modulus (now (basis .entry)) (now (word .entry)) (take (S (length (now (basis .entry)))) r) ⌝ }
+    ensures { λ r. ⌜ (length r ≡ S smallDim) × ProofOf modulus (now (basis .entry)) (now (word .entry)) (take (S (length (now (basis .entry)))) r) ⌝ }
 {
     let s = tables::proof_length(basis.len());
-    let mut proof = no_proof();
+    let mut proof = small::no_proof();
     let mut scratch = no_scratch();
     prover::prove(modulus, basis, word, &mut proof[..s], &mut scratch);
     proof

@@ -44,6 +44,16 @@ proofAt k = proofRecordAt k + 6
 abbrev pub fileEnd : ℕ → ℕ
 fileEnd k = proofAt k + 2 * S k
 
+-- ---- short files
+
+-- the most bytes of a file that is counted or made
+abbrev pub fileLimit : ℕ
+fileLimit = 40000
+
+-- the largest dimension whose stored file is within the limit
+abbrev pub smallDim : ℕ
+smallDim = 8
+
 -- ---- what stands in the bytes f
 
 abbrev pub modulusIn : List ℕ → ℕ

@@ -3,6 +3,7 @@ pub mod bytes;
 mod check;
 mod put;
 pub mod records;
+pub mod small;
 mod writer;
 
 use proximity::tables;
@@ -15,6 +16,14 @@ ghost use Rattle.stored.specs.Reader.{prefixChecks, fileChecks, noRead, 
 ghost use Rattle.stored.specs.Writer.{Wrote};
 ghost use Rattle.stored.specs.Check.{AnsweredFile};
 ghost use Rattle.proximity.specs.Dim.{S};
+
+// The most bytes of a file that is counted or made.
+pub const FILE_LIMIT: usize = 40000;
+
+// The largest dimension whose stored file is within the limit, and the length of its proof.
+pub const SMALL: usize = 8;
+
+pub const SMALL_PROOF: usize = 16128;
 
 // A refusal's number and no setting, or 0, the setting, and where the symbols of the word and of
 // the proof begin and where the last record ends.

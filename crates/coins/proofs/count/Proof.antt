@@ -8,7 +8,7 @@ use lib.Seq.{length-take-le}
 use Rattle.field.specs.Symbols.{symbols}
 use Rattle.stored.specs.Bytes.{numbersAt}
 use Rattle.stored.specs.CheckLaws.{read-passes, read-basis, read-images}
-use Rattle.stored.specs.File.{modulusIn, dimIn, basisIn, wordIn}
+use Rattle.stored.specs.File.{fileLimit, smallDim, modulusIn, dimIn, basisIn, wordIn}
 use Rattle.stored.specs.declared.Reading.{Reading}
 use Rattle.coins.specs.Answer.{told-long, told-refused, told-totals}
 use Rattle.coins.specs.Tally.{Readable}
@@ -52,13 +52,13 @@ module _ (c : tie.After-word-of) where
   read : Readable bytes found
   read = (reading .read .ensures, c .before .if2 .left)
 
-  short : length bytes ≤ 40000
+  short : length bytes ≤ fileLimit
   short = reading .before .if1 .left
 
   abbrev word : List ℕ
   word = take (symbolCount (found .setting .space .k)) (c .word-of .result)
 
-  few : symbolCount (found .setting .space .k) ≤ 256
+  few : symbolCount (found .setting .space .k) ≤ 2 ^ smallDim
   few = few-symbols bytes found read short
 
   long : length word ≡ symbolCount (found .setting .space .k)

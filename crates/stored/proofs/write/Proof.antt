@@ -56,7 +56,7 @@ module _ (c : tie.Else1) where
   few : length bs ≤ maxDim
   few = given .setting .high
 
-  words : (length w ≡ 2 ^ length bs) × (2 ^ length bs ≤ 4096)
+  words : (length w ≡ 2 ^ length bs) × (2 ^ length bs ≤ 2 ^ maxDim)
   words = (given .word, pow-mono {i = length bs} {j = maxDim} few)
 
   proofs : length π < 67551233

@@ -6,6 +6,7 @@ use Prim.Native.Nat.{ℕ, _-_, _^_, _≤_}
 use native.Mathlib.Omega.{arith}
 use Rattle.lists.specs.Answers.{Answers, Passes}
 use Rattle.field.specs.Binary.{degree}
+use Rattle.space.specs.Sizes.{maxDim}
 use Rattle.stored.specs.Reader.{recordChecks}
 use Rattle.delivery.specs.Message.{coefficientRecordAt}
 use Rattle.delivery.specs.MessageLaws.{record-refused, record-after}
@@ -27,8 +28,8 @@ add-at : tie.Need-add-at
 add-at c = search needs
 
 -- how many coefficients there are
-few : (c : tie.After-power) → c .power .result ≤ 4096
-few c = let a = c .before .before in at-most 12 (c .power .ensures) (omega (arith, a .pre .2))
+few : (c : tie.After-power) → c .power .result ≤ 2 ^ maxDim
+few c = let a = c .before .before in at-most maxDim (c .power .ensures) (omega (arith, a .pre .2))
 
 record-refusal-requires : tie.Need-record-refusal-requires
 record-refusal-requires c κs = (c .before .before .pre .0, c .before .before .pre .3, omega (arith, few c))

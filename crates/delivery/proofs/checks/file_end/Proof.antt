@@ -1,6 +1,7 @@
 -- `delivery::checks::file_end` meets its contract. Assumes nothing.
-use Prim.Native.Nat.{_≤_, _<_}
+use Prim.Native.Nat.{_^_, _≤_, _<_}
 use native.Mathlib.Omega.{arith}
+use Rattle.space.specs.Sizes.{maxDim}
 use Rattle.proximity.specs.LineLaws.{S-small}
 use Rattle.delivery.proofs.Laws.{at-most}
 use borrow.Author.Needs.{needs}
@@ -17,8 +18,8 @@ add-result : tie.Need-add-result
 add-result c = search needs
 
 -- 2^k is small
-few : (c : tie.After-power) → c .power .result ≤ 4096
-few c = at-most 12 (c .power .ensures) (c .before .pre)
+few : (c : tie.After-power) → c .power .result ≤ 2 ^ maxDim
+few c = at-most maxDim (c .power .ensures) (c .before .pre)
 
 mul-result-2 : tie.Need-mul-result-2
 mul-result-2 c = omega (arith, few c)

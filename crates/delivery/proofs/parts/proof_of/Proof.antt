@@ -7,6 +7,7 @@ use lib.ListN.{length, take}
 use lib.Pow.{pow-mono}
 use lib.Seq.{length-take-le}
 use Rattle.prover.specs.Calls.{ProofOf}
+use Rattle.stored.specs.File.{smallDim}
 use Rattle.stored.specs.Short.{short-proof}
 use Rattle.delivery.specs.Steps.{proven}
 use Rattle.delivery.proofs.Laws.{length-back, front-back}
@@ -42,7 +43,7 @@ module _ (c : tie.After-no-scratch) where
   part = length-take-le n zeros fits
 
   room : scratchFor (length (start .args .basis .now)) ≤ length (c .no-scratch .result)
-  room = omega (arith, pow-mono {i = length (start .args .basis .now)} {j = 8} (start .pre .0 .few), c .no-scratch .ensures)
+  room = omega (arith, pow-mono {i = length (start .args .basis .now)} {j = smallDim} (start .pre .0 .few), c .no-scratch .ensures)
 
 array-borrow-prefix-proof : tie.Need-array-borrow-prefix-proof
 array-borrow-prefix-proof c = fits c

@@ -1,10 +1,11 @@
 -- `delivery::parts::word_of` meets its contract. Assumes nothing.
 use mathlib.Core.Path.{_≡_, sym, _∙_}
 use mathlib.Core.List.{List}
-use Prim.Native.Nat.{ℕ, _≤_}
+use Prim.Native.Nat.{ℕ, _^_, _≤_}
 use native.Mathlib.Omega.{arith}
 use lib.ListN.{length, take}
 use lib.Seq.{length-take-le}
+use Rattle.stored.specs.File.{smallDim}
 use Rattle.delivery.specs.Steps.{encoded}
 use Rattle.delivery.proofs.Laws.{at-most, length-back, front-back}
 use borrow.Author.Needs.{needs}
@@ -31,8 +32,8 @@ module _ (c : tie.After-no-scratch) where
   abbrev zeros : List ℕ
   zeros = c .before .no-word .result
 
-  few : n ≤ 256
-  few = at-most 8 (c .before .before .power .ensures) (start .pre .0 .few)
+  few : n ≤ 2 ^ smallDim
+  few = at-most smallDim (c .before .before .power .ensures) (start .pre .0 .few)
 
   fits : n ≤ length zeros
   fits = omega (arith, few, c .before .no-word .ensures)

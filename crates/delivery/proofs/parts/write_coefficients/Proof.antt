@@ -8,7 +8,7 @@ use lib.Seq.{length-take-le}
 use Rattle.field.specs.Symbols.{symbols}
 use Rattle.poly.specs.Codeword.{wordOf}
 use Rattle.prover.specs.Calls.{ProofOf}
-use Rattle.stored.specs.File.{fileOf}
+use Rattle.stored.specs.File.{fileOf, smallDim}
 use Rattle.stored.specs.Short.{short-proof}
 use Rattle.delivery.specs.Steps.{written}
 use Rattle.delivery.proofs.Laws.{at-most}
@@ -46,7 +46,7 @@ module _ (c : tie.After-word-of) where
   w = take n (c .word-of .result)
 
   fits : n ≤ length (c .word-of .result)
-  fits = omega (arith, at-most 8 (c .before .before .power .ensures) (start .pre .0 .few), c .word-of .ensures .0)
+  fits = omega (arith, at-most smallDim (c .before .before .power .ensures) (start .pre .0 .few), c .word-of .ensures .0)
 
   part : n ≡ length w
   part = sym (length-take-le n (c .word-of .result) fits)

@@ -6,7 +6,7 @@ use native.Mathlib.Omega.{arith}
 use lib.ListN.{length, take}
 use lib.Seq.{length-take-le}
 use Rattle.stored.specs.Bytes.{numbersAt}
-use Rattle.stored.specs.File.{fileEnd, dimIn, basisIn, modulusIn}
+use Rattle.stored.specs.File.{fileEnd, smallDim, dimIn, basisIn, modulusIn}
 use Rattle.stored.specs.Passed.{length-basis}
 use Rattle.delivery.specs.Parts.{Small, Coefficients, StoredFile}
 use Rattle.delivery.specs.Message.{coefficientsAt, coefficientsIn}
@@ -48,11 +48,11 @@ module _ (c : tie.After-numbers-at) where
   abbrev n : ℕ
   n = c .before .before .power .result
 
-  small : k ≤ 8
+  small : k ≤ smallDim
   small = omega (arith, start .pre .1, length-basis t, start .pre .0 .setting .few)
 
-  few : n ≤ 32
-  few = at-most 5 (c .before .before .power .ensures) (omega (arith, small))
+  few : n ≤ 2 ^ (smallDim - 3)
+  few = at-most (smallDim - 3) (c .before .before .power .ensures) (omega (arith, small))
 
   count : n ≡ 2 ^ (dimIn t - 3)
   count = c .before .before .power .ensures ∙ ap (λ (j : ℕ). 2 ^ (j - 3)) (start .pre .1)

@@ -3,6 +3,7 @@ use mathlib.Core.Path.{_≡_, refl, sym, _∙_}
 use mathlib.Core.Logic.{_⊎_, inl, inr}
 use Prim.Native.Nat.{ℕ, _+_, _*_, _%_, _^_, _≤_}
 use native.Mathlib.Omega.{arith}
+use Rattle.space.specs.Sizes.{maxDim}
 use Rattle.proximity.specs.Dim.{S}
 use Rattle.proximity.specs.LineLaws.{S-small}
 use Rattle.stored.specs.File.{fileEnd}
@@ -47,7 +48,7 @@ module _ (c : tie.Else2) where
   abbrev k : ℕ
   k = start .args .k
 
-  count : (1 * 2 ^ k % 18446744073709551616 ≡ 2 ^ k) × (2 ^ k ≤ 4096)
+  count : (1 * 2 ^ k % 18446744073709551616 ≡ 2 ^ k) × (2 ^ k ≤ 2 ^ maxDim)
   count = word-count k (start .pre)
 
   long : 19 + 2 * k + 2 * (1 * 2 ^ k % 18446744073709551616) + 2 * c .before .proof-length .result ≡ fileEnd k
