@@ -4,14 +4,17 @@ use coins::Counts;
 use libc::STDERR_FILENO;
 use libc::STDIN_FILENO;
 use libc::STDOUT_FILENO;
+use stored::FILE_LIMIT;
 ghost use mathlib.Core.Path.{_≡_};
 ghost use lib.ListN.{length};
+ghost use Prim.Native.Nat.{_+_};
+ghost use Rattle.stored.specs.File.{fileLimit};
 
 // One byte more than a file may have.
-fn input() -> [u8; 40001]
-    ensures { λ r. ⌜ length r ≡ 40001 ⌝ }
+fn input() -> [u8; FILE_LIMIT + 1]
+    ensures { λ r. ⌜ length r ≡ fileLimit + 1 ⌝ }
 {
-    [0u8; 40001]
+    [0u8; FILE_LIMIT + 1]
 }
 
 // Whether the line is written.

@@ -5,13 +5,15 @@ use delivery::Made;
 use libc::STDERR_FILENO;
 use libc::STDIN_FILENO;
 use libc::STDOUT_FILENO;
+use stored::FILE_LIMIT;
 ghost use mathlib.Core.Path.{_≡_};
 ghost use lib.ListN.{length};
+ghost use Rattle.stored.specs.File.{fileLimit};
 
-fn room() -> [u8; 40000]
-    ensures { λ r. ⌜ 40000 ≡ length r ⌝ }
+fn room() -> [u8; FILE_LIMIT]
+    ensures { λ r. ⌜ fileLimit ≡ length r ⌝ }
 {
-    [0; 40000]
+    [0; FILE_LIMIT]
 }
 
 fn written(file: &[u8]) {
