@@ -1,7 +1,7 @@
 -- What an accepted file holds. Assumes nothing.
 use mathlib.Core.Path.{_≡_, refl, sym, ap, _∙_, subst}
 use mathlib.Core.Logic.{inl, inr}
-use mathlib.Core.List.{List, [], _∷_, _++_}
+use mathlib.Core.List.{List, [], _∷_}
 use Prim.Native.Nat.{ℕ, _+_, _*_, _^_, _≤_, _<_}
 use native.Mathlib.Omega.{arith}
 use lib.ListN.{length}
@@ -16,7 +16,7 @@ use Rattle.space.specs.declared.Checked.{Checked}
 use Rattle.space.specs.declared.Setting.{Setting}
 use Rattle.proximity.specs.Dim.{S}
 use Rattle.stored.specs.File.{wordRecordAt, wordAt, proofRecordAt, proofAt, fileEnd, modulusIn, dimIn, basisIn}
-use Rattle.stored.specs.Passed.{Head, head-numbered, head-passed, head-passes, length-basis, in-range, Held, record-numbered, record-passed, record-passes}
+use Rattle.stored.specs.Passed.{Head, head-numbered, head-passed, head-passes, in-range, Held, record-numbered, record-passed, record-passes}
 use Rattle.stored.specs.Reader.{headChecks, basisChecks, settingChecks, wordChecks, proofChecks, symbolChecks, prefixChecks, fileChecks, readOf, noRead, Told}
 use Rattle.stored.specs.declared.Reading.{Reading}
 

@@ -23,8 +23,11 @@ cast-result c = omega (arith, c .shared-slice-known .given (c .before .before .a
 returns : tie.Need-returns
 returns c = let a = c .before .before .args in inside (a .part .now) (a .at) 0 (256 + a .number) (c .before .if1 .taken)
 
+add-result : tie.Need-add-result
+add-result c = search needs
+
 returns-2 : tie.Need-returns-2
 returns-2 c = let a = c .before .args in sym (List·getD-eq-default (a .part .now) (256 + a .number) {n = a .at} (c .if1 .left))
 
 pub byte-at-spec : {M : Type 1} → statement M
-byte-at-spec = tie.close (tie.spec shared-slice-read-result cast-result returns returns-2)
+byte-at-spec = tie.close (tie.spec shared-slice-read-result cast-result returns add-result returns-2)

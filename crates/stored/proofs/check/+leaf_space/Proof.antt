@@ -1,13 +1,12 @@
 -- `stored::check::leaf_space` meets its contract. The measure is the dimension. Assumes nothing.
-use mathlib.Core.Path.{_≡_, sym, ap, _∙_, subst, transport}
+use mathlib.Core.Path.{_≡_, ap, _∙_, subst, transport}
 use mathlib.Core.List.{List}
 use Prim.Native.Nat.{ℕ, _≤_, _<_}
 use native.Mathlib.Omega.{arith}
-use borrow.Author.Needs.{needs}
 use Rattle.proximity.specs.ByLine.{lineDim}
 use Rattle.proximity.specs.LineImages.{LineTable}
 use Rattle.proximity.specs.LineLaws.{line-falls}
-use Rattle.proximity.specs.Verifier.{lineOf, bitsLeft}
+use Rattle.proximity.specs.Verifier.{lineOf}
 use Rattle.proximity.specs.declared.Line.{Line}
 use Rattle.stored.specs.Leaf.{LeafTable, leaf-here, leaf-line, length-line-table}
 use borrow.Fn.Kinds.{In}
