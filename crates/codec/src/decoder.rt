@@ -7,7 +7,7 @@ use transform::slices::copy;
 use transform::slices::from_lane;
 ghost use mathlib.Core.Path.{_≡_};
 ghost use mathlib.Core.List.{List};
-ghost use Prim.Native.Nat.{ℕ, _*_, _-_, _^_, _≤_};
+ghost use Prim.Native.Nat.{ℕ, _-_, _^_, _≤_};
 ghost use lib.ListN.{length};
 ghost use Rattle.lists.specs.All.{Below};
 ghost use Rattle.lists.specs.Lanes.{lane};

@@ -54,6 +54,10 @@ fileLimit = 40000
 abbrev pub smallDim : ℕ
 smallDim = 8
 
+-- the length of its proof: `small-proof`
+abbrev pub smallProof : ℕ
+smallProof = 16128
+
 -- ---- what stands in the bytes f
 
 abbrev pub modulusIn : List ℕ → ℕ

@@ -9,7 +9,7 @@ use Rattle.lists.specs.All.{All-at, All-inside}
 use Rattle.lists.specs.Tables.{table-at}
 use Rattle.proximity.specs.Dim.{S}
 use Rattle.proximity.specs.Tree.{lengths, tables-right}
-use Rattle.stored.specs.File.{fileEnd, fileLimit, smallDim}
+use Rattle.stored.specs.File.{fileEnd, fileLimit, smallDim, smallProof}
 use Rattle.space.specs.Sizes.{maxDim}
 
 -- the lengths of their proofs
@@ -20,7 +20,7 @@ short-at : (k : ℕ) → k ≤ smallDim → getD shorts k 0 ≡ S k
 short-at k h = table-at S shorts (smallDim + 1) (ap (take (smallDim + 1)) (tables-right .0)) k (omega arith)
 
 -- the longest of them
-pub small-proof : S smallDim ≡ 16128
+pub small-proof : S smallDim ≡ smallProof
 small-proof = sym (short-at smallDim (omega arith))
 
 pub short-proof : (k : ℕ) → k ≤ smallDim → S k ≤ S smallDim
@@ -33,6 +33,10 @@ long-proof k l h =
     subst (λ (x : ℕ). fileLimit < 2 * x)
     (table-at (λ i. S (smallDim + 1 + i)) (drop (smallDim + 1) lengths) 6 (ap (drop (smallDim + 1)) (tables-right .0)) (k - (smallDim + 1)) (omega arith) ∙ ap S {x = smallDim + 1 + (k - (smallDim + 1))} {y = k} (omega arith))
     (All-inside (λ (x : ℕ). fileLimit < 2 * x) (drop (smallDim + 1) lengths) 0 (omega arith) (k - (smallDim + 1)) (omega arith))
+
+-- the file of dimension smallDim is within the limit, and no longer one
+pub small-file : fileEnd smallDim ≤ fileLimit
+small-file = omega (arith, small-proof)
 
 pub short-file : (k : ℕ) → k ≤ maxDim → fileEnd k ≤ fileLimit → k ≤ smallDim
 short-file k h l = by (decLe k smallDim)

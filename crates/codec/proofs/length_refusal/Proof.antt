@@ -1,6 +1,6 @@
 -- `codec::length_refusal` meets its contract. Assumes nothing.
 use mathlib.Core.Path.{_≡_, sym, _∙_}
-use Prim.Native.Nat.{ℕ, _*_, _/_, _-_, _^_}
+use Prim.Native.Nat.{ℕ, _/_, _-_, _^_}
 use native.Mathlib.Omega.{arith}
 use lib.Pow.{pow-mono}
 use borrow.Author.Needs.{needs}
