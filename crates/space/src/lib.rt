@@ -190,8 +190,8 @@ fn settle(f: Field, basis: &[u16]) -> Checked
 
 // The setting of a basis in a field whose modulus passed checks 1 and 2: checks 3 to 5.
 //
-// Ruled out: 5 for a dependent basis of 13 elements, since check 3 comes first; the setting of a
-// basis with an element of another field, since check 4 is by the field's own degree.
+// Ruled out: 5 for a dependent basis with an element too many, since check 3 comes first; the
+// setting of a basis with an element of another field, since check 4 is by the field's own degree.
 pub fn check_basis(f: Field, basis: &[u16]) -> Checked
     requires { ⌜ Sized f × Irreducible (f .modulus) ⌝ }
     ensures { λ r. ⌜ SettledBy (spaceChecks (f .modulus) (now (basis .entry))) (f .modulus) (now (basis .entry)) r ⌝ }
