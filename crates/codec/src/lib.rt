@@ -15,7 +15,7 @@ ghost use Rattle.lists.specs.Calls.{zeros};
 ghost use Rattle.codec.specs.Calls.{lengthChecks, Early, outcomeOf, Encoded, Decoded};
 ghost use Rattle.space.specs.Sizes.{maxDim};
 
-// How many words of scratch encoder, decoder and prover take.
+// The scratch that encoder, decoder and prover take, in words of 2^k symbols.
 pub const SCRATCH: usize = 4;
 
 // A call is done, or refused with a number.

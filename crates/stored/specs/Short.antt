@@ -34,7 +34,7 @@ long-proof k l h =
     (table-at (λ i. S (smallDim + 1 + i)) (drop (smallDim + 1) lengths) 6 (ap (drop (smallDim + 1)) (tables-right .0)) (k - (smallDim + 1)) (omega arith) ∙ ap S {x = smallDim + 1 + (k - (smallDim + 1))} {y = k} (omega arith))
     (All-inside (λ (x : ℕ). fileLimit < 2 * x) (drop (smallDim + 1) lengths) 0 (omega arith) (k - (smallDim + 1)) (omega arith))
 
--- the file of dimension smallDim is within the limit, and no longer one
+-- the file of dimension smallDim is within the limit, and none of a larger dimension
 pub small-file : fileEnd smallDim ≤ fileLimit
 small-file = omega (arith, small-proof)
 

@@ -7,11 +7,10 @@ use native.Mathlib.Omega.{arith}
 use lib.ListN.{length, take, drop, length-drop, take-append-drop}
 use lib.Pow.{pow-mono}
 use lib.Seq.{take-at, drop-at, take-append-le, drop-append-le, drop-drop, length-take-le, take-take}
-use Rattle.space.specs.Sizes.{maxColumn}
 use Rattle.lists.specs.All.{drop-take}
 use Rattle.lists.specs.Overwrite.{drop-append-at}
 use Rattle.lists.specs.Tables.{part, part-fits, length-insert}
-use Rattle.verifier.specs.Parts.{InParts, joined, noSymbols, noColumn}
+use Rattle.verifier.specs.Parts.{InParts, joined, noSymbols}
 
 module _ (near far : List ℕ) (slot : ℕ) (p : InParts near far slot) where
   abbrev size : ℕ
@@ -87,7 +86,3 @@ aligned n m r hm hn =
 pub length-no-symbols : length noSymbols ≡ 64
 unfolding noSymbols
 length-no-symbols = refl
-
-pub length-no-column : length noColumn ≡ maxColumn
-unfolding noColumn
-length-no-column = refl

@@ -11,7 +11,7 @@ use Rattle.field.specs.declared.Field.{Field}
 use Rattle.poly.specs.Codeword.{Basis}
 use Rattle.space.specs.Images.{Images}
 use Rattle.space.specs.Ready.{Ready}
-use Rattle.space.specs.Sizes.{maxDim, maxColumn}
+use Rattle.space.specs.Sizes.{maxDim}
 use Rattle.space.specs.declared.Setting.{Setting}
 use Rattle.proximity.specs.Dim.{S}
 
@@ -57,7 +57,3 @@ pub record Lent (k : ℕ) (near far : List ℕ) (slot : ℕ) (π : List ℕ) : T
 -- room for the symbols that a coin reads, all zero
 unfoldable pub noSymbols : List ℕ
 noSymbols = replicate 64 0
-
--- room for a column, all zero
-unfoldable pub noColumn : List ℕ
-noColumn = replicate maxColumn 0

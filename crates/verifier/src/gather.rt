@@ -10,7 +10,7 @@ ghost use Rattle.space.specs.Sizes.{maxDim, maxColumn};
 ghost use Rattle.transform.specs.Slices.{Transposed};
 ghost use Rattle.proximity.specs.Dim.{half, colDim, S};
 ghost use Rattle.proximity.specs.Proof.{column};
-ghost use Rattle.verifier.specs.Parts.{InParts, joined, noSymbols, noColumn};
+ghost use Rattle.verifier.specs.Parts.{InParts, joined, noSymbols};
 
 fn no_symbols() -> [u16; 64]
     ensures { λ r. ⌜ r ≡ noSymbols ⌝ }
@@ -19,7 +19,7 @@ fn no_symbols() -> [u16; 64]
 }
 
 fn no_column() -> [u16; MAX_COLUMN]
-    ensures { λ r. ⌜ r ≡ noColumn ⌝ }
+    ensures { λ r. ⌜ length r ≡ maxColumn ⌝ }
 {
     [0u16; MAX_COLUMN]
 }

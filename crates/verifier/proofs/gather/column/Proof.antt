@@ -2,7 +2,7 @@
 use mathlib.Core.Path.{_≡_, sym, _∙_, subst}
 use Prim.Native.Nat.{ℕ, _-_, _^_, _≤_, _<_}
 use native.Mathlib.Omega.{arith}
-use lib.ListN.{getD}
+use lib.ListN.{length, getD}
 use lib.Pow.{pow-mono}
 use borrow.Author.Needs.{needs}
 use Rattle.space.specs.Sizes.{maxDim, maxColumn}
@@ -10,14 +10,13 @@ use Rattle.lists.specs.Filled.{Filled, filled-none, filled-front, filled-take}
 use Rattle.proximity.specs.Dim.{half, colDim}
 use Rattle.proximity.specs.Proof.{row}
 use Rattle.proximity.specs.Subspaces.{pow-four, pow-eight}
-use Rattle.verifier.specs.Parts.{joined, noColumn}
-use Rattle.verifier.proofs.Laws.{length-no-column}
+use Rattle.verifier.specs.Parts.{joined}
 use Rattle.verifier.proofs.gather.column.Statement.{statement}
 use Rattle.verifier.proofs.gather.column.Tie as tie
 
 abbrev Inv-loop : tie.InvT-loop
 Inv-loop near far slot proof k a rows out₀ r₀ out r =
-    (rows ≡ 2 ^ colDim k) × (r ≤ rows) × Filled 0 r (λ (r : ℕ). getD (row k (joined near far slot) proof r) a 0) noColumn out
+    (rows ≡ 2 ^ colDim k) × (r ≤ rows) × (length out₀ ≡ maxColumn) × Filled 0 r (λ (r : ℕ). getD (row k (joined near far slot) proof r) a 0) out₀ out
 
 abbrev μ-loop : tie.MeasureT-loop
 μ-loop near far slot proof k a rows out₀ r₀ out r = rows - r
@@ -29,7 +28,7 @@ no-column-requires : tie.Need-no-column-requires Inv-loop μ-loop
 no-column-requires c κs = search needs
 
 loop-holds : tie.Need-loop-holds Inv-loop μ-loop
-loop-holds c = (c .before .rows .ensures, omega arith, subst (Filled 0 0 _ noColumn) (sym (c .no-column .ensures)) (filled-none 0 _ noColumn))
+loop-holds c = (c .before .rows .ensures, omega arith, c .no-column .ensures, filled-none 0 _ (c .no-column .result))
 
 module _ (c : tie.In-loop Inv-loop μ-loop) where
   abbrev start : tie.Start Inv-loop μ-loop
@@ -64,7 +63,7 @@ loop-less c = omega arith
 loop-again : tie.Need-loop-again Inv-loop μ-loop
 loop-again c =
     let here = c .before .before in
-    (here .loop .inv .0, omega arith, filled-front (c .row-symbol .result) (omega (arith, few (c .before), inside (c .before), length-no-column)) (c .row-symbol .ensures) (here .loop .inv .2))
+    (here .loop .inv .0, omega arith, here .loop .inv .2, filled-front (c .row-symbol .result) (omega (arith, few (c .before), inside (c .before), here .loop .inv .2)) (c .row-symbol .ensures) (here .loop .inv .3))
 
 returns : tie.Need-returns Inv-loop μ-loop
 returns c =
@@ -72,10 +71,10 @@ returns c =
     let s = here .before .before .before .before .before .before in
     let last : here .loop .r ≡ 2 ^ colDim (s .args .k) = omega (arith, here .loop .inv .0) in
     let few′ : 2 ^ colDim (s .args .k) ≤ maxColumn = pow-mono {j = colDim maxDim} (omega (arith, s .pre .3)) in
-    let f = here .loop .inv .2 in (
-      f .kept ∙ length-no-column,
-      filled-take (omega (arith, length-no-column))
-          (subst (λ (n : ℕ). Filled 0 n (λ (r : ℕ). getD (row (s .args .k) (joined (s .args .near .now) (s .args .far .now) (s .args .slot)) (s .args .proof .now) r) (s .args .a) 0) noColumn (here .loop .out)) last f),
+    let f = here .loop .inv .3 in (
+      f .kept ∙ here .loop .inv .2,
+      filled-take (omega (arith, here .loop .inv .2))
+          (subst (λ (n : ℕ). Filled 0 n (λ (r : ℕ). getD (row (s .args .k) (joined (s .args .near .now) (s .args .far .now) (s .args .slot)) (s .args .proof .now) r) (s .args .a) 0) (here .before .no-column .result) (here .loop .out)) last f),
     )
 
 pub column-spec : {M : Type 1} → statement M
