@@ -11,6 +11,7 @@ use Rattle.lists.specs.All.{Below, All-at}
 use Rattle.lists.specs.Answers.{Answers, Passes, answers-one}
 use Rattle.lists.specs.Tables.{length-tab}
 use Rattle.field.specs.Binary.{degree}
+use Rattle.field.specs.Checks.{not-less}
 use Rattle.field.specs.Laws.{Ops, IsField}
 use Rattle.field.specs.Symbols.{symbols}
 use Rattle.poly.specs.Codeword.{Basis}
@@ -29,7 +30,7 @@ use Rattle.stored.specs.Reader.{fileChecks}
 use Rattle.stored.specs.declared.Reading.{Reading}
 use Rattle.coins.specs.Counted.{Counted, counted-one, counted-none}
 use Rattle.coins.specs.OffLaws.{off-one}
-use Rattle.coins.specs.Totals.{Rejects, countChecks, Totals, noCounts, Told}
+use Rattle.coins.specs.Totals.{Rejects, Swept, countChecks, Totals, noCounts, Told}
 use Rattle.coins.specs.declared.Counts.{Counts}
 
 -- ---- from the stages
@@ -61,9 +62,13 @@ equation-stable {A} {xs} {ys} iff n = by (List-discrete ℕ-discrete xs ys)
     by (no g) = absurd (n (λ a. g (iff .0 a)))
 
 module _ (f : List ℕ) where
-  passes-file : Passes (countChecks f) → Passes (fileChecks f)
-  passes-file (inl a) = absurd (omega arith)
-  passes-file (inr a) = a .1
+  pub counted-length : Passes (countChecks f) → length f ≤ fileLimit
+  counted-length (inl a) = absurd (omega arith)
+  counted-length (inr a) = not-less (a .0)
+
+  pub counted-file : Passes (countChecks f) → Passes (fileChecks f)
+  counted-file (inl a) = absurd (omega arith)
+  counted-file (inr a) = a .1
 
   module _ (p : Passes (fileChecks f)) where
     abbrev K : Ops
@@ -98,7 +103,7 @@ module _ (f : List ℕ) where
             (positions (dim (dimIn f)) coin)
 
     -- no coin rejects exactly when every coin accepts
-    rejects-none : {c : ℕ} → Counted (Rejects f) (2 ^ R (dimIn f)) c
+    pub rejects-none : {c : ℕ} → Counted (Rejects f) (2 ^ R (dimIn f)) c
         → (c ≡ 0) ↔ ((coin : ℕ) → coin < 2 ^ R (dimIn f) → Accepts K (dim (dimIn f)) (basisIn f) (wordIn f) (proofIn f) coin)
     rejects-none a =
         let none = counted-none (Rejects f) (2 ^ R (dimIn f)) a in (
@@ -106,28 +111,26 @@ module _ (f : List ℕ) where
           λ g. none .1 (λ coin h (n, (q, e, s)). s (g coin h)),
         )
 
--- ---- what the totals of an accepted file say
-
--- rejects is 0 exactly when the verdict is accept at every coin
-pub no-rejects : (f : List ℕ) (r : Counts) → Told f r → r .refusal ≡ 0
-    → (r .rejects ≡ 0) ↔ ((coin : ℕ) → coin < 2 ^ R (dimIn f) → Accepts (symbols (modulusIn f)) (dim (dimIn f)) (basisIn f) (wordIn f) (proofIn f) coin)
-no-rejects f r (inl (p, y, t)) z = rejects-none f (passes-file f p) (t .rejects)
-no-rejects f r (inr ((l, a), e)) z = absurd (omega arith)
-
 -- ---- the answer is one
+
+-- what all coins tell is one
+pub swept-one : {f : List ℕ} {k j n m r s a b : ℕ} → Swept f k n r a → Swept f j m s b → (k ≡ j) × (n ≡ m) × (r ≡ s) × (a ≡ b)
+swept-one {f} t u = (
+  t .dimension ∙ sym (u .dimension),
+  t .all ∙ sym (u .all),
+  counted-one (Rejects f) (2 ^ R (dimIn f)) (t .rejecting) (u .rejecting),
+  t .reads ∙ sym (u .reads),
+)
 
 module _ (f : List ℕ) where
   same-totals : Passes (fileChecks f) → (r s : Counts) → r .refusal ≡ s .refusal → Totals f r → Totals f s → r ≡ s
   same-totals p r s e t u =
-      let k : r .k ≡ s .k = t .k ∙ sym (u .k) in
-      let coins : r .coins ≡ s .coins = t .coins ∙ sym (u .coins) in
-      let rejects : r .rejects ≡ s .rejects = counted-one (Rejects f) (2 ^ R (dimIn f)) (t .rejects) (u .rejects) in
-      let most : r .most ≡ s .most = t .most ∙ sym (u .most) in
+      let (k, coins, rejects, most) = swept-one (t .swept) (u .swept) in
       let off : r .off ≡ s .off = off-one (field f p) (dimIn f) (basisIn f) (basis f p) (wordIn f) (t .off) (u .off) in
       λ i. record { refusal = e i; k = k i; coins = coins i; rejects = rejects i; most = most i; off = off i }
 
   pub one-count : (r s : Counts) → Told f r → Told f s → r ≡ s
-  one-count r s (inl (p, z, t)) (inl (q, y, u)) = same-totals (passes-file f p) r s (z ∙ sym y) t u
+  one-count r s (inl (p, z, t)) (inl (q, y, u)) = same-totals (counted-file f p) r s (z ∙ sym y) t u
   one-count r s (inl (p, z, t)) (inr ((l, b), g)) = absurd (omega (arith, answers-one (countChecks f) p b))
   one-count r s (inr ((l, a), e)) (inl (q, y, u)) = absurd (omega (arith, answers-one (countChecks f) a q))
   one-count r s (inr ((l, a), e)) (inr ((m, b), g)) = e ∙ ap noCounts (answers-one (countChecks f) a b) ∙ sym g

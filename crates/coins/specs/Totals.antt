@@ -33,6 +33,13 @@ abbrev pub mostOf : ℕ → (ℕ → ℕ) → ℕ
 mostOf zero g = 0
 mostOf (suc n) g = max (mostOf n g) (g n)
 
+-- what all coins of the file tell: the dimension, 2^R, the rejecting coins, and the most symbols that a coin read
+pub record Swept (f : List ℕ) (k coins rejects most : ℕ) : Type 0 where
+  pub dimension : k ≡ dimIn f
+  pub all : coins ≡ 2 ^ R (dimIn f)
+  pub rejecting : Counted (Rejects f) (2 ^ R (dimIn f)) rejects
+  pub reads : most ≡ mostOf (2 ^ R (dimIn f)) (readsOf (dimIn f))
+
 -- ---- the word
 
 -- at how many of the positions that both have two lists differ
@@ -59,12 +66,9 @@ module _ (K : Ops) (k : ℕ) (b w : List ℕ) where
 abbrev pub countChecks : List ℕ → Checks
 countChecks f = (6, fileLimit < length f) ∷ fileChecks f
 
--- the dimension, 2^R, the rejecting coins, the most symbols that a coin read, and the positions off
+-- what all coins tell, and the positions off
 pub record Totals (f : List ℕ) (r : Counts) : Type 0 where
-  pub k : r .k ≡ dimIn f
-  pub coins : r .coins ≡ 2 ^ R (dimIn f)
-  pub rejects : Counted (Rejects f) (2 ^ R (dimIn f)) (r .rejects)
-  pub most : r .most ≡ mostOf (2 ^ R (dimIn f)) (readsOf (dimIn f))
+  pub swept : Swept f (r .k) (r .coins) (r .rejects) (r .most)
   pub off : Off (symbols (modulusIn f)) (dimIn f) (basisIn f) (wordIn f) (r .off)
 
 unfoldable pub noCounts : ℕ → Counts

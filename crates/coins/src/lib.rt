@@ -1,10 +1,19 @@
 // The totals over all coins of a stored file.
 mod off;
 mod symbols;
-mod tally;
+pub mod tally;
 
 ghost use mathlib.Core.Path.{_≡_};
 ghost use Rattle.coins.specs.Totals.{noCounts, Told};
+
+// What all coins of a file tell: the dimension, the number of coins, how many of them reject, and
+// the most symbols that one of them reads.
+pub struct Sweep {
+    pub k: usize,
+    pub coins: u64,
+    pub rejects: u64,
+    pub most: usize,
+}
 
 // A refusal's number and zeros; or 0, the dimension, the number of coins, how many of them reject,
 // the most symbols that one of them reads, and at how many positions the word differs from the
@@ -50,5 +59,13 @@ pub fn count(file: &[u8]) -> Counts
     let places = symbols::word_of(file, r);
     let word = &places[..1usize << setting.space.k];
     let off = off::off(setting, word);
-    tally::totals(file, r, word, off)
+    let t = tally::all_coins(file, r);
+    Counts {
+        refusal: 0,
+        k: t.k,
+        coins: t.coins,
+        rejects: t.rejects,
+        most: t.most,
+        off,
+    }
 }

@@ -1,33 +1,21 @@
 // The checks of a message file, front to back.
 use field::Field;
 use novel::convert::power;
-use proximity::tables;
 use stored::records;
-ghost use mathlib.Core.Path.{_≡_};
 ghost use Prim.Native.Nat.{_≤_};
 ghost use lib.ListN.{length};
 ghost use Rattle.lists.specs.Answers.{Answers};
 ghost use Rattle.field.specs.Binary.{degree};
 ghost use Rattle.field.specs.Products.{Sized};
 ghost use Rattle.space.specs.Sizes.{maxDim};
-ghost use Rattle.stored.specs.File.{fileEnd};
 ghost use Rattle.delivery.specs.Message.{coefficientRecordAt, roomChecks, coefficientChecks, messageChecks};
-
-// How many bytes a stored file of dimension k has.
-pub fn file_end(k: usize) -> usize
-    requires { ⌜ k ≤ maxDim ⌝ }
-    ensures { λ r. ⌜ r ≡ fileEnd k ⌝ }
-{
-    let n = power(k);
-    19 + 2 * k + 2 * n + 2 * tables::proof_length(k)
-}
 
 // Check 6.
 fn room_refusal(k: usize, room: usize) -> u8
     requires { ⌜ k ≤ maxDim ⌝ }
     ensures { λ r. ⌜ Answers (roomChecks k room) r ⌝ }
 {
-    let end = file_end(k);
+    let end = stored::file_end(k);
     if stored::FILE_LIMIT < end {
         return 6;
     }

@@ -23,7 +23,7 @@ pub fn make(message: &[u8], out: &mut [u8]) -> Made
         return Made::Refused(number);
     }
     let k = message[6] as usize;
-    let end = checks::file_end(k);
+    let end = stored::file_end(k);
     parts::write_file(message, k, &mut out[..end]);
     Made::Written(end)
 }

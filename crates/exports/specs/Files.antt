@@ -6,6 +6,7 @@ use lib.ListN.{getD}
 use Rattle.coins.specs.declared.Counts.{Counts}
 use Rattle.delivery.specs.declared.Made.{Made}
 use Rattle.delivery.specs.declared.Made.the-variants as made
+use Rattle.report.specs.declared.Entry.{Entry}
 use Rattle.stored.specs.Reader.{PartTold}
 use Rattle.stored.specs.declared.Outcome.{Outcome}
 use Rattle.stored.specs.declared.Outcome.the-variants as outcome
@@ -20,14 +21,22 @@ abbrev pub madeCode : Made → ℕ
 madeCode (made.Written n) = n % 65536
 madeCode (made.Refused n) = 65536 + n
 
--- a total by its number: the refusal, then k, the coins, the rejects, the most reads and off
+-- one of six numbers by its place; past them the last
+abbrev pub oneOf : ℕ → ℕ → ℕ → ℕ → ℕ → ℕ → ℕ → ℕ
+oneOf zero a b c d e f = a
+oneOf (suc zero) a b c d e f = b
+oneOf (suc (suc zero)) a b c d e f = c
+oneOf (suc (suc (suc zero))) a b c d e f = d
+oneOf (suc (suc (suc (suc zero)))) a b c d e f = e
+oneOf (suc (suc (suc (suc (suc n))))) a b c d e f = f
+
+-- the counter's answer: the refusal, then k, the coins, the rejects, the most reads and off
 abbrev pub totalOf : Counts → ℕ → ℕ
-totalOf c zero = c .refusal
-totalOf c (suc zero) = c .k
-totalOf c (suc (suc zero)) = c .coins
-totalOf c (suc (suc (suc zero))) = c .rejects
-totalOf c (suc (suc (suc (suc zero)))) = c .most
-totalOf c (suc (suc (suc (suc (suc n))))) = c .off
+totalOf c n = oneOf n (c .refusal) (c .k) (c .coins) (c .rejects) (c .most) (c .off)
+
+-- the report's answer on a file: the same up to the most reads, and where the file ends
+abbrev pub entryOf : Entry → ℕ → ℕ
+entryOf e n = oneOf n (e .refusal) (e .k) (e .coins) (e .rejects) (e .most) (e .end)
 
 -- byte `at` of the part of n bytes from p on that the file f gives; past its end 256 and the number of the refusal
 abbrev pub PartByte : List ℕ → ℕ → ℕ → ℕ → ℕ → Type 0

@@ -1,16 +1,18 @@
 // The calls on stored files.
 use coins::Counts;
 use delivery::Made;
+use report::Entry;
 use stored::Outcome;
 ghost use mathlib.Core.Path.{_≡_};
 ghost use Prim.Native.Nat.{_+_, _*_, _^_};
 ghost use lib.ListN.{getD};
 ghost use Rattle.coins.specs.Totals as totals;
+ghost use Rattle.report.specs.Entry as entries;
 ghost use Rattle.delivery.specs.Message as making;
 ghost use Rattle.proximity.specs.Dim.{S};
 ghost use Rattle.stored.specs.File.{wordAt, proofAt, dimIn};
 ghost use Rattle.stored.specs.Writer.{Wrote};
-ghost use Rattle.exports.specs.Files.{writtenCode, madeCode, totalOf, PartByte};
+ghost use Rattle.exports.specs.Files.{writtenCode, madeCode, oneOf, totalOf, entryOf, PartByte};
 
 fn written_code(o: Outcome) -> u32
     ensures { λ r. ⌜ r ≡ writtenCode o ⌝ }
@@ -50,21 +52,25 @@ pub extern "C" fn proximity_make(message: &[u8], out: &mut [u8]) -> u32
     made_code(delivery::make(message, out))
 }
 
-// A total by its number: the refusal, then the five lines of the counter.
-fn total(c: Counts, which: u32) -> u64
-    ensures { λ r. ⌜ r ≡ totalOf c which ⌝ }
+// One of six numbers by its place; past them the last.
+fn one_of(
+    which: u32,
+    refusal: u8,
+    k: usize,
+    coins: u64,
+    rejects: u64,
+    most: usize,
+    last: usize,
+) -> u64
+    ensures { λ r. ⌜ r ≡ oneOf which refusal k coins rejects most last ⌝ }
 {
-    let refusal = c.refusal;
-    let k = c.k;
-    let most = c.most;
-    let off = c.off;
     match which {
         0 => refusal as u64,
         1 => k as u64,
-        2 => c.coins,
-        3 => c.rejects,
+        2 => coins,
+        3 => rejects,
         4 => most as u64,
-        _ => off as u64,
+        _ => last as u64,
     }
 }
 
@@ -72,7 +78,16 @@ fn total(c: Counts, which: u32) -> u64
 pub extern "C" fn proximity_total(file: &[u8], which: u32) -> u64
     ensures { λ r. ⌜ ((c : Counts) × totals.Told (now (file .entry)) c × (r ≡ totalOf c which)) ⌝ }
 {
-    total(coins::count(file), which)
+    let c = coins::count(file);
+    one_of(which, c.refusal, c.k, c.coins, c.rejects, c.most, c.off)
+}
+
+#[no_mangle]
+pub extern "C" fn proximity_entry(bytes: &[u8], which: u32) -> u64
+    ensures { λ r. ⌜ ((e : Entry) × entries.Told (now (bytes .entry)) e × (r ≡ entryOf e which)) ⌝ }
+{
+    let e = report::front(bytes);
+    one_of(which, e.refusal, e.k, e.coins, e.rejects, e.most, e.end)
 }
 
 // A byte of a part; past its end 256 and the number that came with the part.

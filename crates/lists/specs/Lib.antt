@@ -1,5 +1,6 @@
 -- Laws on lists that the crates above share, and the order in which a call makes its checks.
 pub mod All
+pub mod Alike
 pub mod Answers
 pub mod Calls
 pub mod Decides

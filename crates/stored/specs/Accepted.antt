@@ -1,11 +1,11 @@
 -- What an accepted file holds. Assumes nothing.
 use mathlib.Core.Path.{_≡_, refl, sym, ap, _∙_, subst}
 use mathlib.Core.Logic.{inl, inr}
-use mathlib.Core.List.{List, [], _∷_}
+use mathlib.Core.List.{List, [], _∷_, _++_}
 use Prim.Native.Nat.{ℕ, _+_, _*_, _^_, _≤_, _<_}
 use native.Mathlib.Omega.{arith}
 use lib.ListN.{length}
-use Rattle.lists.specs.Answers.{Answers, Passes, Refuses, Numbered, answers-after, refused-first, not-refused, passes-each}
+use Rattle.lists.specs.Answers.{Checks, Answers, Passes, Refuses, Numbered, answers-after, refused-first, not-refused, passes-each}
 use Rattle.field.specs.Binary.{degree}
 use Rattle.field.specs.Calls.{modulus-numbered}
 use Rattle.field.specs.Checks.{modulusChecks, good-passes, not-less}
@@ -17,7 +17,7 @@ use Rattle.space.specs.declared.Setting.{Setting}
 use Rattle.proximity.specs.Dim.{S}
 use Rattle.stored.specs.File.{wordRecordAt, wordAt, proofRecordAt, proofAt, fileEnd, modulusIn, dimIn, basisIn}
 use Rattle.stored.specs.Passed.{Head, head-numbered, head-passed, head-passes, in-range, Held, record-numbered, record-passed, record-passes}
-use Rattle.stored.specs.Reader.{headChecks, basisChecks, settingChecks, wordChecks, proofChecks, symbolChecks, prefixChecks, fileChecks, readOf, noRead, Told}
+use Rattle.stored.specs.Reader.{headChecks, basisChecks, settingChecks, wordChecks, proofChecks, symbolChecks, prefixChecks, fileChecks, SettingRead, readOf, noRead, Told}
 use Rattle.stored.specs.declared.Reading.{Reading}
 
 -- the records of the setting, the word and the proof
@@ -54,11 +54,13 @@ module _ (f : List ℕ) where
       (inr ((λ n. n (s .basis .elements)), inr ((λ n. n (s .basis .independent)), refl)))
 
   -- the setting that was read
-  pub read-setting : (c : Checked) → SettledBy (settingChecks f) (modulusIn f) (basisIn f) c → c .refusal ≡ 0
-      → Passes (settingChecks f) × (c .setting ≡ settingOf (modulusIn f) (basisIn f)) × Ready (modulusIn f) (basisIn f) (c .setting)
-  read-setting c (inl (p, z, e)) h =
-      (p, e, ready (modulusIn f) (basisIn f) c (inl (sound-passes (modulusIn f) (basisIn f) (setting-passed p .1), z, e)) h)
+  pub read-setting : (c : Checked) → SettledBy (settingChecks f) (modulusIn f) (basisIn f) c → c .refusal ≡ 0 → SettingRead f (c .setting)
+  read-setting c (inl (p, z, e)) h = (p, e)
   read-setting c (inr ((l, a), e)) h = absurd (omega arith)
+
+  pub setting-ready : (s : Setting) → SettingRead f s → Ready (modulusIn f) (basisIn f) s
+  setting-ready s (p, e) =
+      ready (modulusIn f) (basisIn f) (record { refusal = 0; setting = s }) (inl (sound-passes (modulusIn f) (basisIn f) (setting-passed p .1), refl, e)) refl
 
   pub setting-refuses : (c : Checked) → SettledBy (settingChecks f) (modulusIn f) (basisIn f) c → (c .refusal ≡ 0 → ⊥) → Refuses (settingChecks f) (c .refusal)
   setting-refuses c (inl (p, z, e)) n = absurd (n z)
@@ -147,6 +149,11 @@ module _ (f : List ℕ) where
     told-number n h a e =
         let same : r .refusal ≡ n = ap (λ (x : Reading). x .refusal) e in
         inr ((omega arith, subst (Answers cs) (sym same) a), e ∙ ap noRead (sym same))
+
+  -- one table of checks after another
+  pub told-after : (cs ds : Checks) (r : Reading) → Numbered cs → Passes cs → Told ds f r → Told (cs ++ ds) f r
+  told-after cs ds r n p (inl (q, e)) = inl (answers-after cs ds 0 n p q, e)
+  told-after cs ds r n p (inr ((h, a), e)) = inr ((h, answers-after cs ds (r .refusal) n p a), e)
 
   -- the last check, past the records
   abbrev last : List (ℕ × Type 0)

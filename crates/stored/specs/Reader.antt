@@ -12,6 +12,7 @@ use Rattle.field.specs.Symbols.{symbols}
 use Rattle.poly.specs.Span.{Independent}
 use Rattle.space.specs.Setting.{settingOf, noSetting}
 use Rattle.space.specs.Sizes.{maxDim}
+use Rattle.space.specs.declared.Setting.{Setting}
 use Rattle.proximity.specs.Dim.{S}
 use Rattle.stored.specs.Bytes.{fourAt, numbersAt}
 use Rattle.stored.specs.File.{wordRecordAt, wordAt, proofRecordAt, proofAt, fileEnd, modulusIn, dimIn, basisIn, Opens}
@@ -56,6 +57,10 @@ abbrev pub fileChecks : List ℕ → Checks
 fileChecks f = prefixChecks f ++ ((12, fileEnd (dimIn f) < length f) ∷ [])
 
 -- ---- what the reader hands back
+
+-- the setting of a setting record that passes
+abbrev pub SettingRead : List ℕ → Setting → Type 0
+SettingRead f s = Passes (settingChecks f) × (s ≡ settingOf (modulusIn f) (basisIn f))
 
 -- the setting and the places; and where a check refuses, the number alone
 unfoldable pub readOf : List ℕ → Reading

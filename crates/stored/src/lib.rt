@@ -10,9 +10,11 @@ use proximity::tables;
 use space::Setting;
 use verifier::Verdict;
 ghost use mathlib.Core.Path.{_≡_};
-ghost use Prim.Native.Nat.{_*_, _^_};
-ghost use Rattle.stored.specs.File.{wordAt, proofAt, dimIn};
-ghost use Rattle.stored.specs.Reader.{prefixChecks, fileChecks, noRead, Told, PartTold};
+ghost use Prim.Native.Nat.{_*_, _^_, _≤_};
+ghost use Rattle.field.specs.Binary.{degree};
+ghost use Rattle.space.specs.Sizes.{maxDim};
+ghost use Rattle.stored.specs.File.{wordAt, proofAt, fileEnd, modulusIn, dimIn};
+ghost use Rattle.stored.specs.Reader.{symbolChecks, prefixChecks, fileChecks, SettingRead, noRead, Told, PartTold};
 ghost use Rattle.stored.specs.Writer.{Wrote};
 ghost use Rattle.stored.specs.Check.{AnsweredFile};
 ghost use Rattle.proximity.specs.Dim.{S};
@@ -24,6 +26,15 @@ pub const FILE_LIMIT: usize = 40000;
 pub const SMALL: usize = 8;
 
 pub const SMALL_PROOF: usize = 16128;
+
+// How many bytes a stored file of dimension k has.
+pub fn file_end(k: usize) -> usize
+    requires { ⌜ k ≤ maxDim ⌝ }
+    ensures { λ r. ⌜ r ≡ fileEnd k ⌝ }
+{
+    let n = 1usize << k;
+    19 + 2 * k + 2 * n + 2 * tables::proof_length(k)
+}
 
 // A refusal's number and no setting, or 0, the setting, and where the symbols of the word and of
 // the proof begin and where the last record ends.
@@ -53,6 +64,29 @@ fn refused(number: u8) -> Reading
     }
 }
 
+// Reads the word's record and the proof's, past the record of a checked setting.
+pub fn read_symbols(file: &[u8], setting: Setting) -> Reading
+    requires { ⌜ SettingRead (now file) setting ⌝ }
+    ensures { λ r. ⌜ Told (symbolChecks (now (file .entry)) (dimIn (now (file .entry))) (degree (modulusIn (now (file .entry))))) (now (file .entry)) r ⌝ }
+{
+    let k = setting.space.k;
+    let late = records::symbols_refusal(setting.field, file, k);
+    if late != 0 {
+        return refused(late);
+    }
+    let n = 1usize << k;
+    let word = 13 + 2 * k;
+    let proof = word + 2 * n + 6;
+    let end = proof + 2 * tables::proof_length(k);
+    Reading {
+        refusal: 0,
+        setting,
+        word,
+        proof,
+        end,
+    }
+}
+
 // Reads three records from the front of the bytes; others may follow.
 //
 // Ruled out: a count that is compared before the mark, since a record with neither gets 11; an end
@@ -66,21 +100,7 @@ pub fn read_prefix(file: &[u8]) -> Reading
     if early != 0 {
         return refused(early);
     }
-    let k = setting.space.k;
-    let late = records::symbols_refusal(setting.field, file, k);
-    if late != 0 {
-        return refused(late);
-    }
-    let n = 1usize << k;
-    let word = 13 + 2 * k;
-    let proof = word + 2 * n + 6;
-    Reading {
-        refusal: 0,
-        setting,
-        word,
-        proof,
-        end: proof + 2 * tables::proof_length(k),
-    }
+    read_symbols(file, setting)
 }
 
 // Reads a stored file.

@@ -13,15 +13,13 @@ fn length_refusal(k: usize, word: usize, proof: usize, out: usize) -> u8
     requires { ⌜ k ≤ maxDim ⌝ }
     ensures { λ r. ⌜ Answers (lengthChecks k word proof out) r ⌝ }
 {
-    let n = 1usize << k;
-    if word != n {
+    if word != 1usize << k {
         return 6;
     }
-    let count = tables::proof_length(k);
-    if proof != count {
+    if proof != tables::proof_length(k) {
         return 6;
     }
-    if out != 19 + 2 * k + 2 * n + 2 * count {
+    if out != super::file_end(k) {
         return 6;
     }
     0

@@ -14,4 +14,5 @@ pub mod Cases
 pub mod Files
 pub mod Parts
 pub mod Counts
+pub mod Reports
 pub mod Deliveries

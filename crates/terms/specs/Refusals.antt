@@ -24,6 +24,9 @@ use Rattle.stored.specs.declared.Outcome.the-variants as written
 use Rattle.coins.specs.Totals as counter
 use Rattle.coins.specs.Totals.{countChecks, noCounts}
 use Rattle.coins.specs.declared.Counts.{Counts}
+use Rattle.report.specs.Entry as report
+use Rattle.report.specs.Entry.{entryChecks, noEntry}
+use Rattle.report.specs.declared.Entry.{Entry}
 use Rattle.codec.specs.Calls.{encodeChecks, decodeChecks, Encoded, Decoded, Told}
 use Rattle.codec.specs.declared.Outcome.{Outcome}
 use Rattle.codec.specs.declared.Outcome.the-variants.{Done, Refused}
@@ -100,6 +103,11 @@ module _ (f : List ℕ) (r : Reading) where
 pub refused-counting : (f : List ℕ) (c : Counts) → counter.Told f c → 0 < c .refusal → (c .refusal ≤ 12) × (c ≡ noCounts (c .refusal))
 refused-counting f c (inl (p, z, t)) h = absurd (omega arith)
 refused-counting f c (inr ((l, a), e)) h = (answer-within (countChecks f) (search (arith) depth 40) a, e)
+
+-- the report's answer on a file, which is the number alone
+pub refused-entry : (s : List ℕ) (e : Entry) → report.Told s e → 0 < e .refusal → (e .refusal ≤ 12) × (e ≡ noEntry (e .refusal))
+refused-entry s e (inl (p, z, t, g)) h = absurd (omega arith)
+refused-entry s e (inr ((l, a), g)) h = (answer-within (entryChecks s) (search (arith) depth 40) a, g)
 
 -- the checker, which writes nothing
 pub refused-check : (m : ℕ) (bs w π : List ℕ) (coin n : ℕ) → checker.Told m bs w π coin (verdict.Refused n) → (0 < n) × (n ≤ 9)

@@ -1,5 +1,5 @@
 -- `coins::count` meets its contract. Assumes nothing.
-use mathlib.Core.Path.{_≡_, sym}
+use mathlib.Core.Path.{_≡_, refl, sym}
 use mathlib.Core.List.{List}
 use Prim.Native.Nat.{ℕ, _^_, _≤_}
 use native.Mathlib.Omega.{arith}
@@ -95,13 +95,13 @@ module _ (c : tie.After-off) where
       word-off f (found t) (read t) (short t) (word t) (c .off .result) (word-is t)
       (c .off .ensures (basisIn f) (read-basis f (found t) (read t .0) (read t .1)) (read-images f (found t) (read t .0) (read t .1)))
 
-totals-requires : tie.Need-totals-requires
-totals-requires c κs = let t = decoded c in (read t, short t, word-is t, word-differs c)
+all-coins-requires : tie.Need-all-coins-requires
+all-coins-requires c κs = let t = decoded c in (read t, short t)
 
 returns-3 : tie.Need-returns-3
 returns-3 c =
     let t = decoded (c .before) in
-    told-totals (bytes t) (c .totals .result) (short t) (read-passes (bytes t) (found t) (read t .0) (read t .1)) (c .totals .ensures .0) (c .totals .ensures .1)
+    told-totals (bytes t) _ (short t) (read-passes (bytes t) (found t) (read t .0) (read t .1)) refl (record { swept = c .all-coins .ensures; off = word-differs (c .before) })
 
 pub count-spec : {M : Type 1} → statement M
 count-spec =
@@ -117,5 +117,5 @@ count-spec =
     array-share-prefix-places
     slice-aggregate-word
     off-requires
-    totals-requires
+    all-coins-requires
     returns-3)

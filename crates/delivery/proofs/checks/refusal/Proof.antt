@@ -3,15 +3,14 @@ use mathlib.Core.Path.{_≡_, _∙_, subst}
 use mathlib.Core.List.{List}
 use Prim.Native.Nat.{ℕ}
 use native.Mathlib.Omega.{arith}
-use Rattle.lists.specs.Answers.{Answers, Passes}
+use Rattle.lists.specs.Answers.{Answers}
 use Rattle.field.specs.Binary.{degree}
 use Rattle.space.specs.Ready.{Ready}
-use Rattle.space.specs.Setting.{settingOf}
 use Rattle.space.specs.declared.Setting.{Setting}
-use Rattle.stored.specs.Accepted.{setting-passed, setting-refuses, read-setting}
+use Rattle.stored.specs.Accepted.{setting-passed, setting-ready, setting-refuses, read-setting}
 use Rattle.stored.specs.File.{modulusIn, dimIn, basisIn}
 use Rattle.stored.specs.Passed.{Head, length-basis}
-use Rattle.stored.specs.Reader.{settingChecks}
+use Rattle.stored.specs.Reader.{SettingRead}
 use Rattle.delivery.specs.Message.{roomChecks, coefficientChecks}
 use Rattle.delivery.specs.MessageLaws.{setting-refused, room-refused, coefficient-answer}
 use borrow.Author.Needs.{needs}
@@ -39,14 +38,17 @@ module _ (c : tie.Else1) where
   abbrev found : Setting
   found = c .before .before .setting-of .result .setting
 
-  given : Passes (settingChecks t) × (found ≡ settingOf (modulusIn t) (basisIn t)) × Ready (modulusIn t) (basisIn t) found
+  given : SettingRead t found
   given = read-setting t (c .before .before .setting-of .result) (c .before .before .setting-of .ensures) (c .if1 .left)
+
+  fit : Ready (modulusIn t) (basisIn t) found
+  fit = setting-ready t found given
 
   head : Head t
   head = setting-passed t (given .0) .0
 
   dimension : found .space .k ≡ dimIn t
-  dimension = given .2 .dimension ∙ length-basis t
+  dimension = fit .dimension ∙ length-basis t
 
 room-refusal-requires : tie.Need-room-refusal-requires
 room-refusal-requires c κs = omega (arith, dimension c, head c .high)
@@ -68,7 +70,7 @@ returns-2 c =
 coefficient-refusal-requires : tie.Need-coefficient-refusal-requires
 coefficient-refusal-requires c κs =
     let h = here (c .before) in
-    (given h .2 .sized, omega (arith, dimension h, head h .low), omega (arith, dimension h, head h .high), omega (arith, dimension h, head h .basis))
+    (fit h .sized, omega (arith, dimension h, head h .low), omega (arith, dimension h, head h .high), omega (arith, dimension h, head h .basis))
 
 returns-3 : tie.Need-returns-3
 returns-3 c =
@@ -78,7 +80,7 @@ returns-3 c =
     coefficient-answer (t h) (start h .args .room) n (given h .0)
     (subst (Answers (roomChecks (dimIn (t h)) (start h .args .room))) (c .before .if2 .left) (six r))
     (subst (λ (k : ℕ). Answers (coefficientChecks (t h) k (degree (modulusIn (t h)))) n) (dimension h)
-    (subst (λ (m : ℕ). Answers (coefficientChecks (t h) (found h .space .k) (degree m)) n) (given h .2 .modulus) (c .coefficient-refusal .ensures)))
+    (subst (λ (m : ℕ). Answers (coefficientChecks (t h) (found h .space .k) (degree m)) n) (fit h .modulus) (c .coefficient-refusal .ensures)))
 
 pub refusal-spec : {M : Type 1} → statement M
 refusal-spec =

@@ -1,4 +1,4 @@
--- `coins::tally::totals` meets its contract. The loop's invariant: the verdicts below the coin are counted. Assumes nothing.
+-- `coins::tally::all_coins` meets its contract. The loop's invariant: the verdicts below the coin are counted. Assumes nothing.
 use mathlib.Core.Path.{_≡_, refl, sym, ap, ap₂, _∙_, subst, transport}
 use mathlib.Core.List.{List}
 use Prim.Native.Nat.{ℕ, _+_, _-_, _*_, _%_, _^_, _≤_, _<_, max}
@@ -22,16 +22,16 @@ use Rattle.stored.specs.declared.Reading.{Reading}
 use Rattle.coins.specs.Counted.{Counted, counted-most}
 use Rattle.coins.specs.Tally.{judged, count-verdict, most-verdict}
 use Rattle.coins.specs.Totals.{Rejects, mostOf}
-use Rattle.coins.proofs.FileSymbols.{short}
-use Rattle.coins.proofs.tally.totals.Statement.{statement}
-use Rattle.coins.proofs.tally.totals.Tie as tie
+use Rattle.coins.proofs.FileSymbols.{symbolCount, few-symbols, word-front, short}
+use Rattle.coins.proofs.tally.all_coins.Statement.{statement}
+use Rattle.coins.proofs.tally.all_coins.Tie as tie
 use Rattle.space.specs.Sizes.{maxDim}
 
 abbrev Inv-loop : tie.InvT-loop
-Inv-loop file word off field images k s proof coins rejects₀ most₀ coin₀ rejects most coin = (coin ≤ coins) × Counted (Rejects file) coin rejects × (most ≡ mostOf coin (readsOf (dimIn file)))
+Inv-loop file field images k n s word proof coins rejects₀ most₀ coin₀ rejects most coin = (coin ≤ coins) × Counted (Rejects file) coin rejects × (most ≡ mostOf coin (readsOf (dimIn file)))
 
 abbrev μ-loop : tie.MeasureT-loop
-μ-loop file word off field images k s proof coins rejects₀ most₀ coin₀ rejects most coin = coins - coin
+μ-loop file field images k n s word proof coins rejects₀ most₀ coin₀ rejects most coin = coins - coin
 
 -- the file is accepted
 module _ (c : tie.Start Inv-loop μ-loop) where
@@ -50,8 +50,14 @@ module _ (c : tie.Start Inv-loop μ-loop) where
   few : found .setting .space .k ≤ maxDim
   few = read-laid bytes found told none .few
 
+shl-n : tie.Need-shl-n Inv-loop μ-loop
+shl-n c = omega (arith, few (c .before .before .before .before))
+
 proof-length-requires : tie.Need-proof-length-requires Inv-loop μ-loop
-proof-length-requires c κs = few (c .before .before .before .before .before)
+proof-length-requires c κs = few (c .before .before .before .before)
+
+word-of-requires : tie.Need-word-of-requires Inv-loop μ-loop
+word-of-requires c κs = let s = c .before .before .before .before .before in (s .pre .0, s .pre .1)
 
 proof-of-requires : tie.Need-proof-of-requires Inv-loop μ-loop
 proof-of-requires c κs = let s = c .before .before .before .before .before .before in (s .pre .0, s .pre .1)
@@ -61,11 +67,11 @@ coin-bits-requires c κs = few (c .before .before .before .before .before .befor
 
 -- the symbols are decoded
 module _ (c : tie.After-coin-bits Inv-loop μ-loop) where
-  abbrev decoded : tie.After-proof-of Inv-loop μ-loop
-  decoded = c .before
+  abbrev decoded : tie.After-word-of Inv-loop μ-loop
+  decoded = c .before .before
 
   abbrev start : tie.Start Inv-loop μ-loop
-  start = decoded .before .before .before .before .before .before .before
+  start = decoded .before .before .before .before .before .before
 
   abbrev k : ℕ
   k = found start .setting .space .k
@@ -74,10 +80,10 @@ module _ (c : tie.After-coin-bits Inv-loop μ-loop) where
   coins = 1 * 2 ^ c .coin-bits .result % 18446744073709551616
 
   abbrev word : List ℕ
-  word = start .args .word .now
+  word = take (symbolCount k) (decoded .word-of .result)
 
   abbrev proof : List ℕ
-  proof = take (decoded .before .proof-length .result) (decoded .proof-of .result)
+  proof = take (decoded .before .proof-length .result) (c .before .proof-of .result)
 
   small : c .coin-bits .result < 26
   small = omega (arith, c .coin-bits .ensures, R-small k (omega (arith, few start)))
@@ -92,13 +98,16 @@ module _ (c : tie.After-coin-bits Inv-loop μ-loop) where
   bounded = omega (arith, one-shifted (c .coin-bits .result) (omega (arith, small)), pow-mono {i = c .coin-bits .result} {j = 26} (omega (arith, small)))
 
   word-is : word ≡ numbersAt (bytes start) (found start .word) (2 ^ k)
-  word-is = start .pre .2
+  word-is = word-front (bytes start) (found start) (start .pre .0) (start .pre .1) (decoded .word-of .result) (decoded .word-of .ensures .1)
+
+  word-fits : symbolCount k ≤ length (decoded .word-of .result)
+  word-fits = omega (arith, few-symbols (bytes start) (found start) (start .pre .0) (start .pre .1), decoded .word-of .ensures .0)
 
   proof-is : proof ≡ numbersAt (bytes start) (found start .proof) (S k)
-  proof-is = ap (λ (i : ℕ). take i (decoded .proof-of .result)) (decoded .before .proof-length .ensures) ∙ decoded .proof-of .ensures .1
+  proof-is = ap (λ (i : ℕ). take i (c .before .proof-of .result)) (decoded .before .proof-length .ensures) ∙ c .before .proof-of .ensures .1
 
-  proof-fits : decoded .before .proof-length .result ≤ length (decoded .proof-of .result)
-  proof-fits = omega (arith, short (bytes start) (found start) (start .pre .0) (start .pre .1), decoded .before .proof-length .ensures, decoded .proof-of .ensures .0)
+  proof-fits : decoded .before .proof-length .result ≤ length (c .before .proof-of .result)
+  proof-fits = omega (arith, short (bytes start) (found start) (start .pre .0) (start .pre .1), decoded .before .proof-length .ensures, c .before .proof-of .ensures .0)
 
 cast-coins : tie.Need-cast-coins Inv-loop μ-loop
 cast-coins c = omega (arith, small c)
@@ -109,15 +118,21 @@ shl-coins c = omega (arith, small c)
 loop-holds : tie.Need-loop-holds Inv-loop μ-loop
 loop-holds c = (omega arith, refl, refl)
 
-array-share-prefix-proof : tie.Need-array-share-prefix-proof Inv-loop μ-loop
-array-share-prefix-proof c = proof-fits (c .before .before .before)
+array-share-prefix-word : tie.Need-array-share-prefix-word Inv-loop μ-loop
+array-share-prefix-word c = word-fits (c .before .before .before)
 
 slice-aggregate-check-word : tie.Need-slice-aggregate-check-word Inv-loop μ-loop
-slice-aggregate-check-word c = sym (length-take-le _ _ (proof-fits (c .before .before .before .before)))
+slice-aggregate-check-word c = sym (length-take-le _ _ (word-fits (c .before .before .before .before)))
+
+array-share-prefix-proof : tie.Need-array-share-prefix-proof Inv-loop μ-loop
+array-share-prefix-proof c = proof-fits (c .before .before .before .before)
+
+slice-aggregate-check-word-2 : tie.Need-slice-aggregate-check-word-2 Inv-loop μ-loop
+slice-aggregate-check-word-2 c = sym (length-take-le _ _ (proof-fits (c .before .before .before .before .before)))
 
 check-word-requires : tie.Need-check-word-requires Inv-loop μ-loop
 check-word-requires c κs =
-    let t = c .before .before .before .before in
+    let t = c .before .before .before .before .before in
     let s = start t in (
       read-space (bytes s) (found s) (told s) (none s),
       ap length (word-is t) ∙ length-tab (2 ^ k t) (λ i. twoAt (bytes s) (found s .word + 2 * i)),
@@ -127,7 +142,7 @@ check-word-requires c κs =
 -- the verdict at this coin
 module _ (c : tie.After-check-word Inv-loop μ-loop) where
   abbrev head : tie.At-loop Inv-loop μ-loop
-  head = c .before .before .before .before
+  head = c .before .before .before .before .before
 
   abbrev at : tie.After-coin-bits Inv-loop μ-loop
   at = head .before
@@ -191,31 +206,32 @@ returns c =
     let h = c .before in
     let t = h .before in
     let f = bytes (start t) in
-    let last : h .loop .coin ≡ 2 ^ R (dimIn f) = omega (arith, all-coins t) in (
-      refl,
-      record {
-        k = dimension t;
-        coins = all-coins t;
-        rejects = subst (λ (n : ℕ). Counted (Rejects f) n (h .loop .rejects)) last (h .loop .inv .1);
-        most = h .loop .inv .2 ∙ ap (λ (n : ℕ). mostOf n (readsOf (dimIn f))) last;
-        off = start t .pre .3;
-      },
-    )
+    let last : h .loop .coin ≡ 2 ^ R (dimIn f) = omega (arith, all-coins t) in
+    record {
+      dimension = dimension t;
+      all = all-coins t;
+      rejecting = subst (λ (n : ℕ). Counted (Rejects f) n (h .loop .rejects)) last (h .loop .inv .1);
+      reads = h .loop .inv .2 ∙ ap (λ (n : ℕ). mostOf n (readsOf (dimIn f))) last;
+    }
 
-pub totals-spec : {M : Type 1} → statement M
-totals-spec =
+pub all-coins-spec : {M : Type 1} → statement M
+all-coins-spec =
     tie.close
     (tie.spec
     Inv-loop
     μ-loop
+    shl-n
     proof-length-requires
+    word-of-requires
     proof-of-requires
     coin-bits-requires
     cast-coins
     shl-coins
     loop-holds
-    array-share-prefix-proof
+    array-share-prefix-word
     slice-aggregate-check-word
+    array-share-prefix-proof
+    slice-aggregate-check-word-2
     check-word-requires
     rejecting-requires
     add-rejects

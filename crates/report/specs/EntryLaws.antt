@@ -1,0 +1,187 @@
+-- What passes the checks of an entry is a stored file; the entry of the window is that of all that is left. Assumes nothing.
+use mathlib.Core.Path.{_≡_, refl, sym, ap, _∙_, subst}
+use mathlib.Core.Logic.{inl, inr, _↔_}
+use mathlib.Core.List.{List, [], _∷_, _++_}
+use Prim.Native.Nat.{ℕ, _≤_, _<_}
+use native.Mathlib.Omega.{arith}
+use lib.ListN.{length, take}
+use lib.Pow.{pow-mono}
+use lib.Seq.{take-at, take-take, length-take-le}
+use Rattle.lists.specs.Alike.{Alike, alike-answers, alike-back, alike-path, alike-append}
+use Rattle.lists.specs.Answers.{Checks, Answers, Passes, Numbered, answers-after, refused-first, passes-each}
+use Rattle.field.specs.Binary.{degree}
+use Rattle.field.specs.Checks.{not-less}
+use Rattle.stored.specs.Accepted.{Prefix, Accepted, accepted, setting-numbered, prefix-numbered, prefix-passed, prefix-passes}
+use Rattle.stored.specs.File.{wordRecordAt, fileEnd, fileLimit, modulusIn, dimIn}
+use Rattle.stored.specs.Reader.{settingChecks, symbolChecks, prefixChecks, fileChecks, readOf}
+use Rattle.stored.specs.declared.Reading.{Reading}
+use Rattle.space.specs.Sizes.{maxDim}
+use Rattle.coins.specs.Answer.{counted-file, counted-length}
+use Rattle.coins.specs.Tally.{Readable}
+use Rattle.coins.specs.Totals.{Swept, countChecks}
+use Rattle.report.specs.Entry.{sizeChecks, entryChecks, fileIn, noEntry, Told}
+use Rattle.report.specs.Prefix.{dimension, setting-alike, symbol-alike, read-alike}
+use Rattle.report.specs.Window.{windowOn}
+use Rattle.report.specs.declared.Entry.{Entry}
+
+size-numbered : (k : ℕ) → Numbered (sizeChecks k)
+size-numbered k = (omega arith, tt)
+
+size-passed : (k : ℕ) → Passes (sizeChecks k) → fileEnd k ≤ fileLimit
+size-passed k (inl a) = absurd (omega arith)
+size-passed k (inr a) = not-less (a .0)
+
+-- ---- the answers on the way
+
+module _ (s : List ℕ) where
+  abbrev k : ℕ
+  k = dimIn s
+
+  abbrev records : Checks
+  records = symbolChecks s k (degree (modulusIn s))
+
+  module _ (e : Entry) where
+    pub told-number : (n : ℕ) → (n ≡ 0 → ⊥) → Answers (entryChecks s) n → e ≡ noEntry n → Told s e
+    unfolding noEntry
+    told-number n h a g =
+        let same : e .refusal ≡ n = ap (λ (x : Entry). x .refusal) g in
+        inr ((omega (arith, h), subst (Answers (entryChecks s)) (sym same) a), g ∙ ap noEntry (sym same))
+
+  pub setting-refused : (n : ℕ) → 0 < n → Answers (settingChecks s) n → Answers (entryChecks s) n
+  setting-refused n h a = refused-first (settingChecks s) (sizeChecks k ++ records) n h a
+
+  pub size-refused : Passes (settingChecks s) → fileLimit < fileEnd k → Answers (entryChecks s) 6
+  size-refused p h = answers-after (settingChecks s) (sizeChecks k ++ records) 6 (setting-numbered s) p (inl (h, refl))
+
+  pub records-answer : (n : ℕ) → Passes (settingChecks s) → fileEnd k ≤ fileLimit → Answers records n → Answers (entryChecks s) n
+  records-answer n p h a = answers-after (settingChecks s) (sizeChecks k ++ records) n (setting-numbered s) p (inr ((λ l. omega arith), a))
+
+  -- ---- what passes
+
+  module _ (p : Passes (entryChecks s)) where
+    parts : Passes (settingChecks s) × (fileEnd k ≤ fileLimit) × Passes records
+    parts =
+        let one = passes-each (settingChecks s) (sizeChecks k ++ records) (setting-numbered s) p in
+        let two = passes-each (sizeChecks k) records (size-numbered k) (one .1) in
+        (one .0, size-passed k (two .0), two .1)
+
+    -- the three records at the front
+    pub entry-records : Prefix s
+    entry-records = prefix-passed s (answers-after (settingChecks s) records 0 (setting-numbered s) (parts .0) (parts .2))
+
+    -- the file is there, and within the limit
+    pub entry-present : fileEnd k ≤ length s
+    entry-present = entry-records .proof .present
+
+    pub entry-limit : fileEnd k ≤ fileLimit
+    entry-limit = parts .1
+
+    long : wordRecordAt maxDim ≤ fileEnd k
+    long = omega (arith, pow-mono {i = 3} {j = k} (entry-records .head .low), entry-records .head .low)
+
+    abbrev file : List ℕ
+    file = fileIn s
+
+    pub file-length : length file ≡ fileEnd k
+    file-length = length-take-le (fileEnd k) s entry-present
+
+    pub file-dim : dimIn file ≡ k
+    file-dim = dimension (fileEnd k) s long
+
+    pub file-few : dimIn file ≤ maxDim
+    file-few = omega (arith, file-dim, entry-records .head .high)
+
+    -- it is a stored file that the counter takes
+    pub entry-file : Passes (fileChecks file)
+    entry-file =
+        answers-after (prefixChecks file) ((12, fileEnd (dimIn file) < length file) ∷ []) 0 (prefix-numbered file)
+        (answers-after (settingChecks file) (symbolChecks file (dimIn file) (degree (modulusIn file))) 0 (setting-numbered file)
+        (alike-back (settingChecks file) (settingChecks s) (setting-alike (fileEnd k) s long) 0 (parts .0))
+        (alike-back (symbolChecks file (dimIn file) (degree (modulusIn file))) records (symbol-alike (fileEnd k) s long (omega arith)) 0 (parts .2)))
+        (inr ((λ h. omega (arith, file-length, ap (λ (j : ℕ). fileEnd j) file-dim)), refl))
+
+    pub entry-counted : Passes (countChecks file)
+    entry-counted = inr ((λ h. omega (arith, file-length, entry-limit)), entry-file)
+
+    -- what the reader hands back of the records is what it hands back of the file
+    pub entry-readable : (r : Reading) → r ≡ readOf s → Readable file r
+    unfolding readOf
+    entry-readable r e = (inl (entry-file, e ∙ sym (read-alike (fileEnd k) s long file-few)), ap (λ (x : Reading). x .refusal) e)
+
+-- ---- the window
+
+module _ (s : List ℕ) where
+  abbrev w : List ℕ
+  w = windowOn s
+
+  same-dim : dimIn w ≡ dimIn s
+  same-dim = dimension fileLimit s (omega arith)
+
+  -- the checks on the window answer as those on the stream
+  pub window-checks : Alike (entryChecks w) (entryChecks s)
+  window-checks =
+      alike-append (settingChecks w) (settingChecks s) (sizeChecks (dimIn w) ++ symbolChecks w (dimIn w) (degree (modulusIn w))) (sizeChecks (dimIn s) ++ symbolChecks s (dimIn s) (degree (modulusIn s)))
+      (setting-alike fileLimit s (omega arith))
+      (λ _. alike-append (sizeChecks (dimIn w)) (sizeChecks (dimIn s)) (symbolChecks w (dimIn w) (degree (modulusIn w))) (symbolChecks s (dimIn s) (degree (modulusIn s)))
+      (alike-path sizeChecks same-dim) (λ p. symbol-alike fileLimit s (omega arith) (subst (λ (j : ℕ). fileEnd j ≤ fileLimit) same-dim (size-passed (dimIn w) p))))
+
+  same-file : fileEnd (dimIn s) ≤ fileLimit → fileIn w ≡ fileIn s
+  same-file h = ap (λ (j : ℕ). take (fileEnd j) w) same-dim ∙ take-take (fileEnd (dimIn s)) fileLimit s h
+
+-- The entry of the window is the entry of all that is left of the stream.
+pub window-told : (s : List ℕ) (e : Entry) → Told (windowOn s) e ↔ Told s e
+window-told s e = (to, from)
+  where
+    to : Told (windowOn s) e → Told s e
+    to (inl (p, z, t, g)) =
+        let q = alike-answers (entryChecks (windowOn s)) (entryChecks s) (window-checks s) 0 p in
+        inl (q, z, subst (λ (f : List ℕ). Swept f (e .k) (e .coins) (e .rejects) (e .most)) (same-file s (entry-limit s q)) t, g ∙ ap fileEnd (same-dim s))
+    to (inr ((h, a), g)) = inr ((h, alike-answers (entryChecks (windowOn s)) (entryChecks s) (window-checks s) (e .refusal) a), g)
+
+    from : Told s e → Told (windowOn s) e
+    from (inl (p, z, t, g)) =
+        inl (
+          alike-back (entryChecks (windowOn s)) (entryChecks s) (window-checks s) 0 p,
+          z,
+          subst (λ (f : List ℕ). Swept f (e .k) (e .coins) (e .rejects) (e .most)) (sym (same-file s (entry-limit s p))) t,
+          g ∙ ap fileEnd (sym (same-dim s)),
+        )
+    from (inr ((h, a), g)) = inr ((h, alike-back (entryChecks (windowOn s)) (entryChecks s) (window-checks s) (e .refusal) a), g)
+
+-- ---- a file that the counter takes, and what follows it
+
+module _ (f t : List ℕ) (p : Passes (countChecks f)) where
+  abbrev s : List ℕ
+  s = f ++ t
+
+  file-passes : Passes (fileChecks f)
+  file-passes = counted-file f p
+
+  front : take (length f) s ≡ f
+  front = take-at f t (length f) refl
+
+  held : Accepted f
+  held = accepted f file-passes
+
+  wide : wordRecordAt maxDim ≤ length f
+  wide = omega (arith, held .whole, pow-mono {i = 3} {j = dimIn f} (held .records .head .low), held .records .head .low)
+
+  dim-same : dimIn f ≡ dimIn s
+  dim-same = subst (λ (g : List ℕ). dimIn g ≡ dimIn s) front (dimension (length f) s wide)
+
+  ends : fileEnd (dimIn s) ≡ length f
+  ends = ap (λ (j : ℕ). fileEnd j) (sym dim-same) ∙ sym (held .whole)
+
+  -- bytes that follow are no refusal
+  pub following-passes : Passes (entryChecks s)
+  following-passes =
+      let parts = passes-each (settingChecks f) (symbolChecks f (dimIn f) (degree (modulusIn f))) (setting-numbered f) (prefix-passes f (held .records)) in
+      records-answer s 0
+      (alike-answers (settingChecks f) (settingChecks s) (subst (λ (g : List ℕ). Alike (settingChecks g) (settingChecks s)) front (setting-alike (length f) s wide)) 0 (parts .0))
+      (omega (arith, ends, counted-length f p))
+      (alike-answers (symbolChecks f (dimIn f) (degree (modulusIn f))) (symbolChecks s (dimIn s) (degree (modulusIn s)))
+      (subst (λ (g : List ℕ). Alike (symbolChecks g (dimIn g) (degree (modulusIn g))) (symbolChecks s (dimIn s) (degree (modulusIn s)))) front (symbol-alike (length f) s wide (omega (arith, ends)))) 0 (parts .1))
+
+  -- and the next file begins where this one ends
+  pub following-file : (fileIn s ≡ f) × (fileEnd (dimIn s) ≡ length f)
+  following-file = (ap (λ (n : ℕ). take n s) ends ∙ front, ends)

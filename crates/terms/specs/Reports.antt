@@ -1,0 +1,72 @@
+-- The printed sentences for the report over a stream of stored files. `Told s e` is the contract of report's `front` for its answer e on the
+-- stream s, `Next` that of `next`; `Reported s es t` says that es and t are the report on the stream s.
+use mathlib.Core.Path.{_≡_, _∙_}
+use mathlib.Core.Logic.{inl, inr, _↔_}
+use mathlib.Core.List.{List, _++_}
+use Prim.Native.Nat.{ℕ, _+_}
+use native.Mathlib.Omega.{arith}
+use lib.ListN.{length}
+use Rattle.lists.specs.Answers.{Passes, not-refused}
+use Rattle.field.specs.Symbols.{symbols}
+use Rattle.proximity.specs.Dim.{dim}
+use Rattle.proximity.specs.Proof.{Honest}
+use Rattle.stored.specs.File.{modulusIn, basisIn, wordIn, proofIn}
+use Rattle.coins.specs.Answer.{swept-one}
+use Rattle.coins.specs.Totals as counter
+use Rattle.coins.specs.Totals.{countChecks}
+use Rattle.coins.specs.declared.Counts.{Counts}
+use Rattle.report.specs.Entry.{entryChecks, fileIn, Told}
+use Rattle.report.specs.EntryLaws as laws
+use Rattle.report.specs.OneReport as one
+use Rattle.report.specs.Report.{mostFiles, noReport, Next, Reported}
+use Rattle.report.specs.Steps as steps
+use Rattle.report.specs.Steps.{Steps}
+use Rattle.report.specs.Window.{windowOn}
+use Rattle.report.specs.declared.Entry.{Entry}
+use Rattle.report.specs.declared.Report.{Report}
+use Rattle.report.specs.declared.Total.{Total}
+use Rattle.terms.specs.Counts.{none-exactly}
+
+-- ---- one answer
+
+pub one-entry : (s : List ℕ) (d e : Entry) → Told s d → Told s e → d ≡ e
+one-entry = one.one-entry
+
+pub one-next : (s : List ℕ) (p q r : Report) → Next s p q → Next s p r → q ≡ r
+one-next = one.one-next
+
+-- The report on a stream is one, its entries and its total.
+pub one-report : (s : List ℕ) (ds es : List Entry) (t u : Total) → Reported s ds t → Reported s es u → (ds ≡ es) × (t ≡ u)
+one-report = one.one-report
+
+-- ---- the stream and the window
+
+-- The entry of the window is the entry of all that is left of the stream.
+pub window-told : (s : List ℕ) (e : Entry) → Told (windowOn s) e ↔ Told s e
+window-told = laws.window-told
+
+-- The files of a stream, read through the window from the first on, give the report on the stream.
+pub steps-report : (s : List ℕ) (es : List Entry) (q : Report) → Steps (mostFiles + 1) s noReport es q → Reported s es (q .total)
+steps-report = steps.steps-report
+
+-- ---- an entry and the coin counter
+
+-- A file that the counter takes is an entry, whatever follows it, and the next file begins where it ends.
+pub whatever-follows : (f t : List ℕ) (e : Entry) → Passes (countChecks f) → Told (f ++ t) e → (e .refusal ≡ 0) × (e .end ≡ length f)
+whatever-follows f t e p (inl (q, z, s, g)) = (z, g ∙ laws.following-file f t p .1)
+whatever-follows f t e p (inr (r, g)) = absurd (not-refused (entryChecks (f ++ t)) (laws.following-passes f t p) r)
+
+-- The entry of an accepted file has the counter's numbers of that file.
+pub entry-as-counted : (s : List ℕ) (e : Entry) (c : Counts) → Told s e → e .refusal ≡ 0 → counter.Told (fileIn s) c
+    → (c .refusal ≡ 0) × (e .k ≡ c .k) × (e .coins ≡ c .coins) × (e .rejects ≡ c .rejects) × (e .most ≡ c .most)
+entry-as-counted s e c (inl (p, z, t, g)) h (inl (q, y, u)) = let (k, coins, rejects, most) = swept-one t (u .swept) in (y, k, coins, rejects, most)
+entry-as-counted s e c (inl (p, z, t, g)) h (inr (r, u)) = absurd (not-refused (countChecks (fileIn s)) (laws.entry-counted s p) r)
+entry-as-counted s e c (inr ((l, a), g)) h u = absurd (omega arith)
+
+-- No coin of its file rejects exactly where the file's word evaluates a polynomial of degree below an eighth of its length, and its proof is
+-- the one laid out for it.
+pub no-rejects-reported : (s : List ℕ) (e : Entry) → Told s e → e .refusal ≡ 0
+    → (e .rejects ≡ 0)
+    ↔ ((P : List ℕ) × Honest (symbols (modulusIn (fileIn s))) (dim (length (basisIn (fileIn s)))) (basisIn (fileIn s)) (wordIn (fileIn s)) (proofIn (fileIn s)) P)
+no-rejects-reported s e (inl (p, z, t, g)) h = none-exactly (fileIn s) (laws.entry-file s p) (e .rejects) (t .rejecting)
+no-rejects-reported s e (inr ((l, a), g)) h = absurd (omega arith)
