@@ -1,6 +1,9 @@
 //! The stored file, written from document 01: slow and direct.
 use crate::model::{coin_bits, degree, irreducible, independent, positions, proof_length, through_first, word_of, LARGEST};
 
+/// The most bytes of a file that a program takes.
+pub const FILE_LIMIT: usize = 40000;
+
 pub struct File {
     pub modulus: u32,
     pub basis: Vec<u16>,
@@ -83,16 +86,23 @@ fn read_record(rest: &mut &[u8], mark: [u8; 2], count: usize, l: u32) -> Result<
     Ok(xs)
 }
 
-/// The three records at the front, or the number of the first check that refuses, front to back.
-pub fn read_prefix(bytes: &[u8]) -> Result<File, u32> {
+/// The three records at the front, or the number of the first check that refuses, front to back: 6 after 5 where the file of the setting
+/// would exceed the limit.
+pub fn read_within(bytes: &[u8], limit: usize) -> Result<File, u32> {
     let mut rest = bytes;
     let (modulus, basis) = read_setting(&mut rest)?;
     let (k, l) = (basis.len(), degree(modulus));
+    refuse_if(file_length(k) > limit, 6)?;
     let first = bytes.len() - rest.len() + 6;
     let word = read_record(&mut rest, [0x57, 0x4f], 1 << k, l)?;
     let second = bytes.len() - rest.len() + 6;
     let proof = read_record(&mut rest, [0x50, 0x46], proof_length(k), l)?;
     Ok(File { modulus, basis, word, proof, places: [first, second, bytes.len() - rest.len()] })
+}
+
+/// The same of a file of any length.
+pub fn read_prefix(bytes: &[u8]) -> Result<File, u32> {
+    read_within(bytes, usize::MAX)
 }
 
 /// The file, or the number of the first check that refuses.
@@ -112,21 +122,27 @@ pub fn read_message(bytes: &[u8], room: usize) -> Result<(u32, Vec<u16>, Vec<u16
     let mut rest = bytes;
     let (m, basis) = read_setting(&mut rest)?;
     let k = basis.len();
-    refuse_if(file_length(k) > room.min(40000), 6)?;
+    refuse_if(file_length(k) > room.min(FILE_LIMIT), 6)?;
     let p = read_record(&mut rest, [0x43, 0x4f], 1 << (k - 3), degree(m))?;
     refuse_if(!rest.is_empty(), 12)?;
     Ok((m, basis, p))
 }
 
-/// The five numbers of the coin counter, or the number of a refusal.
-pub fn count(bytes: &[u8]) -> Result<[u64; 5], u32> {
-    refuse_if(bytes.len() > 40000, 6)?;
-    let f = read(bytes)?;
+/// Dimension, coins, rejecting coins and the most reads of a coin.
+pub fn coin_numbers(f: &File) -> [u64; 4] {
     let k = f.basis.len();
     let coins = 1u64 << coin_bits(k);
     let rejects = (0..coins).filter(|c| crate::model::check(f.modulus, &f.basis, &f.word, &f.proof, *c) >> 16 == 1).count();
     let most = (0..coins).map(|c| positions(k, c).len()).max().unwrap_or(0);
+    [k as u64, coins, rejects as u64, most as u64]
+}
+
+/// The five numbers of the coin counter, or the number of a refusal.
+pub fn count(bytes: &[u8]) -> Result<[u64; 5], u32> {
+    refuse_if(bytes.len() > FILE_LIMIT, 6)?;
+    let f = read(bytes)?;
+    let [k, coins, rejects, most] = coin_numbers(&f);
     let near = word_of(f.modulus, &f.basis, &through_first(f.modulus, &f.basis, &f.word));
     let off = near.iter().zip(&f.word).filter(|(a, b)| a != b).count();
-    Ok([k as u64, coins, rejects as u64, most as u64, off as u64])
+    Ok([k, coins, rejects, most, off as u64])
 }

@@ -16,6 +16,11 @@ pub struct Delivery {
 
 pub fn delivery(d: &mut Draw, k: usize) -> Delivery {
     let s = setting(d, k);
+    delivery_in(d, s)
+}
+
+pub fn delivery_in(d: &mut Draw, s: Setting) -> Delivery {
+    let k = s.b.len();
     let p = d.list(1 << (k - 3), 1 << s.l);
     let (w, proof) = (model::word_of(s.m, &s.b, &p), model::proof_of(s.m, &s.b, &p));
     Delivery { s, p, w, proof }
@@ -38,17 +43,18 @@ fn same(f: &[u8], coin: u64, met: &mut Met) -> bool {
     (calls::file_refusal(f), calls::coin_bits(f), calls::check_file(f, coin)) == (number, bits, answer)
 }
 
-/// Files that are cut at every length. Each cut is a list of its own, of exactly that length.
-fn cuts(t: &mut Tally) {
+/// Files that are cut at every length, by a comparison that puts its answer into the table. Each cut is a list of its own, of exactly
+/// that length.
+pub fn cuts(t: &mut Tally, name: &str, mut same: impl FnMut(&[u8], &mut Met) -> bool) {
     let mut d = Draw(0xa54ff53a5f1d36f1);
     let (mut wrong, mut met) = (0, Met::default());
     for k in 3..=7 {
         let whole = bytes(&delivery(&mut d, k));
         for n in 0..=whole.len() {
-            wrong += u64::from(!same(&whole[..n].to_vec().into_boxed_slice(), 0, &mut met));
+            wrong += u64::from(!same(&whole[..n].to_vec().into_boxed_slice(), &mut met));
         }
     }
-    t.answers("files cut at every length", wrong, &met, &[0, 11]);
+    t.answers(name, wrong, &met, &[0, 11]);
 }
 
 /// Some bytes of a file changed, most often in the heads of its records, or bytes put after it.
@@ -68,7 +74,7 @@ pub fn spoil(d: &mut Draw, f: &mut Vec<u8>, k: usize) {
 }
 
 /// A file that is right, or whose setting, symbols or bytes are spoilt.
-fn damaged_file(d: &mut Draw, k: usize) -> Vec<u8> {
+pub fn damaged_file(d: &mut Draw, k: usize) -> Vec<u8> {
     let mut x = delivery(d, k);
     match d.below(6) {
         0 => damage(d, &mut x.w, 1 << x.s.l),
@@ -148,28 +154,32 @@ fn parts(t: &mut Tally) {
     t.group("parts of files", wrong, 300);
 }
 
-/// The counts beside the sample files are the model's.
-fn samples(t: &mut Tally) {
+/// What stands beside the samples of one kind is the model's text.
+pub fn samples(t: &mut Tally, kind: &str, beside: &str, mut text: impl FnMut(&[u8]) -> String) {
     let (mut wrong, mut cases) = (0, 0);
     for entry in std::fs::read_dir("samples").expect("the samples are there") {
         let path = entry.expect("the samples can be listed").path();
-        if path.extension().is_some_and(|e| e == "stored") {
+        if path.extension().is_some_and(|e| e == kind) {
             let read = |p: &std::path::Path| std::fs::read(p).expect("a sample can be read");
-            let right = match file::count(&read(&path)) {
-                Err(n) => format!("refused {n}\n"),
-                Ok([k, coins, rejects, most, off]) => format!("k {k}\ncoins {coins}\nrejects {rejects}\nreads-most {most}\noff {off}\n"),
-            };
-            wrong += u64::from(read(&path.with_extension("counts")) != right.as_bytes());
+            wrong += u64::from(read(&path.with_extension(beside)) != text(&read(&path)).as_bytes());
             cases += 1;
         }
     }
-    t.group("counts of the samples", wrong, cases);
+    t.group(&format!("{beside} of the samples"), wrong, cases);
+}
+
+/// What the coin counter prints of a file.
+fn counts(f: &[u8]) -> String {
+    match file::count(f) {
+        Err(n) => format!("refused {n}\n"),
+        Ok([k, coins, rejects, most, off]) => format!("k {k}\ncoins {coins}\nrejects {rejects}\nreads-most {most}\noff {off}\n"),
+    }
 }
 
 pub fn all(t: &mut Tally) {
-    cuts(t);
+    cuts(t, "files cut at every length", |f, met| same(f, 0, met));
     damaged(t);
     places(t);
     parts(t);
-    samples(t);
+    samples(t, "stored", "counts", counts);
 }
