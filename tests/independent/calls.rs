@@ -12,6 +12,7 @@ mod raw {
         pub fn proximity_write(modulus: u32, basis: *const u16, n: usize, word: *const u16, w: usize, proof: *const u16, p: usize, out: *mut u8, o: usize) -> u32;
         pub fn proximity_make(message: *const u8, n: usize, out: *mut u8, o: usize) -> u32;
         pub fn proximity_total(file: *const u8, n: usize, which: u32) -> u64;
+        pub fn proximity_entry(bytes: *const u8, n: usize, which: u32) -> u64;
         pub fn proximity_place(file: *const u8, n: usize, which: u32) -> u64;
         pub fn proximity_prefix_place(file: *const u8, n: usize, which: u32) -> u64;
         pub fn proximity_file_refusal(file: *const u8, n: usize) -> u32;
@@ -63,6 +64,11 @@ pub fn make(message: &[u8], out: &mut [u8]) -> u32 {
 /// A total of the coin counter by its number: the refusal, then its five lines.
 pub fn total(file: &[u8], which: u32) -> u64 {
     unsafe { raw::proximity_total(file.as_ptr(), file.len(), which) }
+}
+
+/// The refusal, the four numbers and the end of the file at the front of the bytes.
+pub fn entry(bytes: &[u8]) -> [u64; 6] {
+    [0, 1, 2, 3, 4, 5].map(|i| unsafe { raw::proximity_entry(bytes.as_ptr(), bytes.len(), i) })
 }
 
 /// The refusal, and where word, proof and file end, of a whole file.

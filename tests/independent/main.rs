@@ -6,6 +6,8 @@ mod file;
 mod files;
 mod largest;
 mod model;
+mod report;
+mod stream;
 mod symbols;
 mod writers;
 
@@ -140,6 +142,7 @@ fn main() {
     largest::all(&mut t);
     files::all(&mut t);
     writers::all(&mut t);
+    report::all(&mut t);
     println!("{} passed, {} failed", t.passed, t.failed);
     std::process::exit(i32::from(t.failed != 0));
 }
