@@ -1,5 +1,6 @@
 //! Processor time of the proved calls beside the independent model and beside a plain implementation with tables of logarithms, in one
-//! run. The plain one checks no input; the proved calls make all their checks. With a file name, a plot is written there.
+//! run, and the time of the delivery report beside that of the counter. The plain implementation checks no input; the proved calls make
+//! all their checks. With a file name, a plot is written there.
 #[path = "../tests/independent/arithmetic.rs"]
 mod arithmetic;
 #[path = "../tests/independent/model.rs"]
@@ -14,7 +15,10 @@ mod calls;
 mod plain;
 mod plot;
 
+use std::fs::File;
 use std::hint::black_box;
+use std::process::Command;
+use std::time::Instant;
 
 const MODULUS: u32 = 65581;
 
@@ -177,6 +181,36 @@ fn stored(f: &plain::Field, basis: &[u16]) {
     println!("  decoded and not checked, log tables {:.3} ms; model {:.1} ms", fast / 1e6, slow / 1e6);
 }
 
+/// Milliseconds on the clock, which sees the processes that a call starts.
+fn elapsed(f: &mut dyn FnMut()) -> f64 {
+    let start = Instant::now();
+    f();
+    start.elapsed().as_secs_f64() * 1000.0
+}
+
+/// What the delivery report prints of a stream in a file.
+fn report(path: &str) -> Vec<u8> {
+    let stream = File::open(path).expect("the stream can be read");
+    Command::new("target/bin/delivery_report").stdin(stream).output().expect("target/bin/delivery_report can be run").stdout
+}
+
+/// The report of a stream of 200 files at k = 8 beside the counter's call on each of them: the least of ten turns.
+fn streams(f: &plain::Field, basis: &[u16]) {
+    let path = "target/bench.stream";
+    let one = stored_file(f, &basis[..8]);
+    let stream = one.repeat(200);
+    std::fs::write(path, &stream).expect("the stream can be written");
+    assert!(report(path).ends_with(b"\n200 8 2048 0 64\ntotal 200 409600 0\n"));
+    let mut least = [f64::MAX; 2];
+    for _ in 0..10 {
+        let whole = elapsed(&mut || drop(black_box(report(path))));
+        let single = elapsed(&mut || assert!(stream.chunks(one.len()).all(|file| calls::total(file, 3) == 0)));
+        least = [least[0].min(whole), least[1].min(single)];
+    }
+    let [whole, single] = least;
+    println!("\n200 stored files at k = 8: report of the stream {whole:.1} ms, counted one by one {single:.1} ms, ratio {:.2}", whole / single);
+}
+
 fn main() {
     let basis: Vec<u16> = (0..12).map(|i| 1 << i).collect();
     field(&basis);
@@ -187,6 +221,7 @@ fn main() {
         table(name, &rows.iter().map(|r| r[i]).collect::<Vec<_>>());
     }
     stored(&f, &basis);
+    streams(&f, &basis);
     if let Some(path) = std::env::args().nth(1) {
         std::fs::write(&path, plot::draw(&rows)).expect("the plot can be written");
         println!("plot: {path}");
