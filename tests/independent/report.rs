@@ -1,4 +1,4 @@
-//! The delivery sheet: the proved entry at the front of a stream, and the program on whole streams, beside the independent model.
+//! The delivery report: the proved entry at the front of a stream, and the program on whole streams, beside the independent model.
 use crate::files::{bytes, cuts, damaged_file, delivery, delivery_in, samples};
 use crate::stream::{entries, front, report, Known, FILES};
 use crate::{basis, calls, damage, file, modulus, setting, spoil_setting, Draw, Met, Setting, Tally};

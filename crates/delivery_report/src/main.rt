@@ -57,7 +57,7 @@ fn run() -> bool {
         }
         report = report::next(report, &bytes[..n]);
         let latest = report.latest;
-        if !show(report.place, latest) {
+        if !show(report.read, latest) {
             return false;
         }
         let end = latest.end;

@@ -1,9 +1,8 @@
 -- The report on a stream is one: entries and total, and each call on the way. Assumes nothing.
-use mathlib.Core.Path.{_≡_, refl, sym, ap, ap₂, _∙_, subst}
+use mathlib.Core.Path.{_≡_, sym, ap, ap₂, _∙_, subst}
 use mathlib.Core.Logic.{_⊎_, inl, inr}
 use mathlib.Core.List.{List, [], _∷_}
 use Prim.Native.Nat.{ℕ, zero, suc}
-use native.Mathlib.Omega.{arith}
 use lib.ListN.{drop}
 use Rattle.lists.specs.Answers.{answers-one, not-refused}
 use Rattle.coins.specs.Answer.{swept-one}
@@ -50,9 +49,9 @@ one-report s ds es t u (a, g) (b, h) = let same = one-list mostFiles s ds es a b
 pub one-next : (s : List ℕ) (p q r : Report) → Next s p q → Next s p r → q ≡ r
 one-next s p q r (inl (o, h, a)) (inl (o′, h′, b)) =
     let latest = one-entry s (q .latest) (r .latest) (a .latest) (b .latest) in
-    let place : q .place ≡ r .place = a .place ∙ sym (b .place) in
+    let read : q .read ≡ r .read = a .read ∙ sym (b .read) in
     let total : q .total ≡ r .total = a .total ∙ ap (withEntry (p .total)) latest ∙ sym (b .total) in
-    λ i. record { place = place i; latest = latest i; total = total i }
+    λ i. record { read = read i; latest = latest i; total = total i }
 one-next s p q r (inl (o, h, a)) (inr (n, e)) = absurd (n (o, h))
 one-next s p q r (inr (n, e)) (inl (o, h, b)) = absurd (n (o, h))
 one-next s p q r (inr (n, e)) (inr (m, g)) = e ∙ sym g

@@ -14,7 +14,7 @@ use Rattle.report.specs.declared.Total.{Total}
 abbrev pub mostFiles : ℕ
 mostFiles = 200
 
--- the most coins that a file has
+-- no file has more coins
 abbrev pub mostCoins : ℕ
 mostCoins = 2 ^ 25
 
@@ -37,18 +37,18 @@ Reported s es total = Entries mostFiles s es × (total ≡ totalOf es)
 -- one more file is read: the latest was accepted, there is room for one, and the total is no more than so many files can have
 pub record GoesOn (p : Report) : Type 0 where
   pub accepted : p .latest .refusal ≡ 0
-  pub room : p .place < mostFiles
-  pub files : p .total .files ≤ p .place
-  pub coins : p .total .coins ≤ p .place * mostCoins
-  pub rejects : p .total .rejects ≤ p .place * mostCoins
+  pub room : p .read < mostFiles
+  pub files : p .total .files ≤ p .read
+  pub coins : p .total .coins ≤ p .read * mostCoins
+  pub rejects : p .total .rejects ≤ p .read * mostCoins
 
 -- the report before the first file
 unfoldable pub noReport : Report
-noReport = record { place = 0; latest = noEntry 0; total = totalOf [] }
+noReport = record { read = 0; latest = noEntry 0; total = totalOf [] }
 
 -- r is p with one file more, at the front of s
 pub record Added (s : List ℕ) (p r : Report) : Type 0 where
-  pub place : r .place ≡ p .place + 1
+  pub read : r .read ≡ p .read + 1
   pub latest : Told s (r .latest)
   pub total : r .total ≡ withEntry (p .total) (r .latest)
 

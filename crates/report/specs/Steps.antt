@@ -7,12 +7,12 @@ use native.Mathlib.Decide.{ℕ-discrete}
 use native.Mathlib.Omega.{arith}
 use lib.ListN.{length, drop, length-take}
 use Rattle.stored.specs.File.{fileLimit}
-use Rattle.report.specs.Bounds.{Bounded, told-bounded}
+use Rattle.report.specs.Bounds.{told-bounded}
 use Rattle.report.specs.Entry.{noEntry, Told}
 use Rattle.report.specs.EntryLaws.{window-told}
 use Rattle.report.specs.Report.{mostFiles, mostCoins, Entries, Reported, GoesOn, noReport, Added, Next}
 use Rattle.report.specs.Total.{sumOf, totalOf, withEntry}
-use Rattle.report.specs.TotalLaws.{counted-most}
+use Rattle.report.specs.TotalLaws.{accepted-most}
 use Rattle.report.specs.Window.{windowOn}
 use Rattle.report.specs.declared.Entry.{Entry}
 use Rattle.report.specs.declared.Report.{Report}
@@ -31,9 +31,9 @@ Steps (suc n) s p es q =
 
 -- no more than so many files can have
 record Fair (p : Report) : Type 0 where
-  files : p .total .files ≤ p .place
-  coins : p .total .coins ≤ p .place * mostCoins
-  rejects : p .total .rejects ≤ p .place * mostCoins
+  files : p .total .files ≤ p .read
+  coins : p .total .coins ≤ p .read * mostCoins
+  rejects : p .total .rejects ≤ p .read * mostCoins
 
 -- u is t with the accepted files of es
 record Sums (t : Total) (es : List Entry) (u : Total) : Type 0 where
@@ -58,9 +58,9 @@ module _ {s : List ℕ} {p r : Report} (a : Added s p r) where
   fair-next f =
       let b = told-bounded s latest (a .latest) in
       record {
-        files = omega (arith, one-more .files, f .files, a .place, counted-most (latest .refusal) 1);
-        coins = omega (arith, one-more .coins, f .coins, a .place, b .coins, counted-most (latest .refusal) (latest .coins));
-        rejects = omega (arith, one-more .rejects, f .rejects, a .place, b .rejects, counted-most (latest .refusal) (latest .rejects));
+        files = omega (arith, one-more .files, f .files, a .read, accepted-most (latest .refusal) 1);
+        coins = omega (arith, one-more .coins, f .coins, a .read, b .coins, accepted-most (latest .refusal) (latest .coins));
+        rejects = omega (arith, one-more .rejects, f .rejects, a .read, b .rejects, accepted-most (latest .refusal) (latest .rejects));
       }
 
   sums-next : {es rest : List Entry} {u : Total} → es ≡ latest ∷ rest → Sums (r .total) rest u → Sums (p .total) es u
@@ -79,7 +79,7 @@ sums-none {es} {p} {q} e g =
 
 -- ---- the entries on the way
 
-goes-on : {p : Report} → Fair p → p .latest .refusal ≡ 0 → p .place < mostFiles → GoesOn p
+goes-on : {p : Report} → Fair p → p .latest .refusal ≡ 0 → p .read < mostFiles → GoesOn p
 goes-on f z h = record { accepted = z; room = h; files = f .files; coins = f .coins; rejects = f .rejects }
 
 -- past a refused file nothing is read
@@ -94,7 +94,7 @@ Right m s p es q = Entries m s es × Sums (p .total) es (q .total)
 
 module _ (p : Report) (f : Fair p) (z : p .latest .refusal ≡ 0) (es : List Entry) (q : Report) where
   -- the report has ended
-  ends : (m : ℕ) (s : List ℕ) → p .place + m ≡ mostFiles → (GoesOn p × (0 < length s) → ⊥) → es ≡ [] → q ≡ p → Right m s p es q
+  ends : (m : ℕ) (s : List ℕ) → p .read + m ≡ mostFiles → (GoesOn p × (0 < length s) → ⊥) → es ≡ [] → q ≡ p → Right m s p es q
   ends zero s h g e d = (e, sums-none e d)
   ends (suc m) [] h g e d = (e, sums-none e d)
   ends (suc m) (b ∷ s) h g e d = absurd (g (goes-on f z (omega arith), omega arith))
@@ -118,14 +118,14 @@ added : (b : ℕ) (s : List ℕ) (p r : Report) → GoesOn p → Next (windowOn 
 added b s p r g (inl (o, h, a)) = a
 added b s p r g (inr (n, e)) = absurd (n (g, seen b s))
 
-steps-right : (n m : ℕ) (s : List ℕ) (p q : Report) (es : List Entry) → Fair p → p .latest .refusal ≡ 0 → p .place + m ≡ mostFiles → m < n → Steps n s p es q → Right m s p es q
+steps-right : (n m : ℕ) (s : List ℕ) (p q : Report) (es : List Entry) → Fair p → p .latest .refusal ≡ 0 → p .read + m ≡ mostFiles → m < n → Steps n s p es q → Right m s p es q
 steps-right zero m s p q es f z h l t = absurd (omega arith)
 steps-right (suc n) m s p q es f z h l (inr (g, e, d)) = ends p f z es q m s h g e d
 steps-right (suc n) zero s p q es f z h l (inl (g, y, t)) = absurd (omega (arith, g .room))
 steps-right (suc n) (suc m) [] p q es f z h l (inl (g, y, t)) = absurd (omega arith)
 steps-right (suc n) (suc m) (b ∷ s) p q es f z h l (inl (g, y, (r, rest, x, e, t))) =
     let a = added b s p r g x in
-    by a (ℕ-discrete (r .latest .refusal) 0) (λ k. steps-right n m (drop (r .latest .end) (b ∷ s)) r q rest (fair-next a f) k (omega (arith, a .place)) (omega arith) t)
+    by a (ℕ-discrete (r .latest .refusal) 0) (λ k. steps-right n m (drop (r .latest .end) (b ∷ s)) r q rest (fair-next a f) k (omega (arith, a .read)) (omega arith) t)
   where
     by : Added (windowOn (b ∷ s)) p r → Dec (r .latest .refusal ≡ 0) → (r .latest .refusal ≡ 0 → Right m (drop (r .latest .end) (b ∷ s)) r rest q) → Right (suc m) (b ∷ s) p es q
     by a (yes k) next = accepted p f z es q b s r rest a e m k (next k)

@@ -9,7 +9,7 @@ ghost use Rattle.lists.specs.Decides.{Decides};
 ghost use Rattle.report.specs.Entry.{noEntry, Told};
 ghost use Rattle.report.specs.Report.{GoesOn, noReport, Next};
 
-// How many files of a stream are read, and the most coins that a file has.
+// How many files of a stream are read, and a number of coins that no file exceeds.
 pub const MOST_FILES: u64 = 200;
 
 pub const MOST_COINS: u64 = 1 << 25;
@@ -34,7 +34,7 @@ pub struct Total {
 
 // The report so far: the number of files read, what it says of the latest, and the total.
 pub struct Report {
-    pub place: u64,
+    pub read: u64,
     pub latest: Entry,
     pub total: Total,
 }
@@ -55,8 +55,7 @@ fn refused(number: u8) -> Entry
 // The file at the front of the bytes: the setting's checks, 6 where its file would exceed the limit,
 // the records' checks; then all coins. Others may follow it.
 //
-// Ruled out: 12 for the bytes after the file, which are the next one's; 11 for a setting of dimension
-// 9 that no byte follows, since it gets 6 first.
+// Ruled out: 12 for the bytes after the file, which are the next one's; an end one byte late.
 pub fn front(bytes: &[u8]) -> Entry
     ensures { λ r. ⌜ Told (now (bytes .entry)) r ⌝ }
 {
@@ -87,11 +86,13 @@ pub fn front(bytes: &[u8]) -> Entry
 }
 
 // The report before the first file.
+//
+// Ruled out: a file that is read, or counted, before the first.
 pub fn start() -> Report
     ensures { λ r. ⌜ r ≡ noReport ⌝ }
 {
     Report {
-        place: 0,
+        read: 0,
         latest: refused(0),
         total: Total {
             files: 0,
@@ -108,16 +109,16 @@ pub fn start() -> Report
 pub fn goes_on(report: Report) -> bool
     ensures { λ r. ⌜ Decides r (GoesOn report) ⌝ }
 {
-    let place = report.place;
+    let read = report.read;
     let t = report.total;
     if report.latest.refusal != 0 {
         return false;
     }
-    if MOST_FILES <= place {
+    if MOST_FILES <= read {
         return false;
     }
-    let most = place * MOST_COINS;
-    if place < t.files {
+    let most = read * MOST_COINS;
+    if read < t.files {
         return false;
     }
     if most < t.coins {
@@ -142,12 +143,12 @@ pub fn next(report: Report, bytes: &[u8]) -> Report
     if !goes_on(report) {
         return report;
     }
-    let place = report.place + 1;
+    let read = report.read + 1;
     let t = report.total;
     let latest = front(bytes);
     if latest.refusal != 0 {
         return Report {
-            place,
+            read,
             latest,
             total: t,
         };
@@ -156,7 +157,7 @@ pub fn next(report: Report, bytes: &[u8]) -> Report
     let coins = t.coins + latest.coins;
     let rejects = t.rejects + latest.rejects;
     Report {
-        place,
+        read,
         latest,
         total: Total {
             files,

@@ -3,14 +3,14 @@
 use mathlib.Core.Path.{_≡_, _∙_}
 use mathlib.Core.Logic.{inl, inr, _↔_}
 use mathlib.Core.List.{List, _++_}
-use Prim.Native.Nat.{ℕ, _+_}
+use Prim.Native.Nat.{ℕ, _+_, _-_, _≤_}
 use native.Mathlib.Omega.{arith}
-use lib.ListN.{length}
+use lib.ListN.{length, take, drop}
 use Rattle.lists.specs.Answers.{Passes, not-refused}
 use Rattle.field.specs.Symbols.{symbols}
 use Rattle.proximity.specs.Dim.{dim}
 use Rattle.proximity.specs.Proof.{Honest}
-use Rattle.stored.specs.File.{modulusIn, basisIn, wordIn, proofIn}
+use Rattle.stored.specs.File.{fileLimit, modulusIn, basisIn, wordIn, proofIn}
 use Rattle.coins.specs.Answer.{swept-one}
 use Rattle.coins.specs.Totals as counter
 use Rattle.coins.specs.Totals.{countChecks}
@@ -21,7 +21,8 @@ use Rattle.report.specs.OneReport as one
 use Rattle.report.specs.Report.{mostFiles, noReport, Next, Reported}
 use Rattle.report.specs.Steps as steps
 use Rattle.report.specs.Steps.{Steps}
-use Rattle.report.specs.Window.{windowOn}
+use Rattle.report.specs.Window as window
+use Rattle.report.specs.Window.{windowOn, Slid}
 use Rattle.report.specs.declared.Entry.{Entry}
 use Rattle.report.specs.declared.Report.{Report}
 use Rattle.report.specs.declared.Total.{Total}
@@ -44,6 +45,14 @@ one-report = one.one-report
 -- The entry of the window is the entry of all that is left of the stream.
 pub window-told : (s : List ℕ) (e : Entry) → Told (windowOn s) e ↔ Told s e
 window-told = laws.window-told
+
+-- Where n bytes of the stream s are held, those that come next make them the window.
+pub window-filled : (s held : List ℕ) (n : ℕ) → n ≤ fileLimit → take n held ≡ take n s → take n held ++ take (fileLimit - n) (drop n s) ≡ windowOn s
+window-filled = window.window-filled
+
+-- Moved past a file of `by` bytes, what is held is the front of what is left.
+pub window-slid : (s old new : List ℕ) (by end : ℕ) → by ≤ end → take end old ≡ take end s → Slid by end old new → take (end - by) new ≡ take (end - by) (drop by s)
+window-slid = window.window-slid
 
 -- The files of a stream, read through the window from the first on, give the report on the stream.
 pub steps-report : (s : List ℕ) (es : List Entry) (q : Report) → Steps (mostFiles + 1) s noReport es q → Reported s es (q .total)

@@ -2,7 +2,7 @@
 use mathlib.Core.Path.{_≡_, sym, _∙_}
 use mathlib.Core.Logic.{inl, inr}
 use mathlib.Core.List.{List}
-use Prim.Native.Nat.{ℕ, _+_, _-_, _≤_, _<_}
+use Prim.Native.Nat.{ℕ, _+_, _-_, _≤_}
 use native.Mathlib.Omega.{arith}
 use lib.ListN.{length, take, drop, length-drop}
 use lib.Seq.{length-take-le}
@@ -21,7 +21,7 @@ abbrev Inv-loop : tie.InvT-loop
 Inv-loop bytes₀ n₀ report₀ bytes n report = (length bytes ≡ fileLimit) × (n ≤ fileLimit)
 
 abbrev μ-loop : tie.MeasureT-loop
-μ-loop bytes₀ n₀ report₀ bytes n report = mostFiles - report .place
+μ-loop bytes₀ n₀ report₀ bytes n report = mostFiles - report .read
 
 window-requires : tie.Need-window-requires Inv-loop μ-loop
 window-requires c κs = search needs
@@ -125,7 +125,7 @@ sub-n : tie.Need-sub-n Inv-loop μ-loop
 sub-n c = fits (c .before .before .before .before .before .before)
 
 loop-less : tie.Need-loop-less Inv-loop μ-loop
-loop-less c = let g = c .before .before .before .before .before .before in omega (arith, added g .place, on g .room)
+loop-less c = let g = c .before .before .before .before .before .before in omega (arith, added g .read, on g .room)
 
 loop-again : tie.Need-loop-again Inv-loop μ-loop
 loop-again c =

@@ -2,15 +2,15 @@
 use mathlib.Core.Path.{_≡_, refl, sym, ap, _∙_, subst}
 use mathlib.Core.Logic.{inl}
 use mathlib.Core.List.{List}
-use Prim.Native.Nat.{ℕ, _≤_, _<_}
+use Prim.Native.Nat.{ℕ, _≤_}
 use native.Mathlib.Omega.{arith}
 use lib.ListN.{length, take}
 use lib.Seq.{length-take-le}
 use Rattle.lists.specs.Answers.{Answers, Passes}
 use Rattle.field.specs.Binary.{degree}
 use Rattle.space.specs.declared.Setting.{Setting}
-use Rattle.stored.specs.Accepted.{setting-passed, setting-refuses, setting-ready, read-setting, told-accepted, told-refuses, told-end}
-use Rattle.stored.specs.File.{fileEnd, fileLimit, modulusIn, dimIn, basisIn}
+use Rattle.stored.specs.Accepted.{setting-passed, setting-refuses, setting-ready, read-setting, told-accepted, told-refuses}
+use Rattle.stored.specs.File.{fileEnd, fileLimit, modulusIn, dimIn}
 use Rattle.stored.specs.Passed.{Head, length-basis}
 use Rattle.stored.specs.Reader.{symbolChecks, SettingRead, readOf}
 use Rattle.stored.specs.declared.Reading.{Reading}

@@ -1,9 +1,7 @@
 -- `report::goes_on` meets its contract. Assumes nothing.
-use mathlib.Core.Path.{_≡_, refl}
+use mathlib.Core.Path.{refl}
 use mathlib.Core.Logic.{inl, inr}
-use Prim.Native.Nat.{ℕ, _≤_, _<_}
 use native.Mathlib.Omega.{arith}
-use Rattle.report.specs.declared.Report.{Report}
 use borrow.Author.Needs.{needs}
 use Rattle.report.proofs.goes_on.Statement.{statement}
 use Rattle.report.proofs.goes_on.Tie as tie

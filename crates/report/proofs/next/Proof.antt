@@ -1,8 +1,8 @@
 -- `report::next` meets its contract. Assumes nothing.
-use mathlib.Core.Path.{_≡_, refl, sym}
+use mathlib.Core.Path.{refl}
 use mathlib.Core.Logic.{inl, inr}
 use mathlib.Core.List.{List}
-use Prim.Native.Nat.{ℕ, _+_, _*_, _<_}
+use Prim.Native.Nat.{ℕ, _<_}
 use native.Mathlib.Omega.{arith}
 use lib.ListN.{length}
 use Rattle.lists.specs.Decides.{decides-true, decides-false}
@@ -43,8 +43,8 @@ module _ (c : tie.Else2) where
   some : 0 < length s
   some = omega (arith, c .before .before .if1 .left)
 
-add-place : tie.Need-add-place
-add-place c = omega (arith, on (c .before) .room)
+add-read : tie.Need-add-read
+add-read c = omega (arith, on (c .before) .room)
 
 front-requires : tie.Need-front-requires
 front-requires c κs = search needs
@@ -53,7 +53,7 @@ returns-3 : tie.Need-returns-3
 returns-3 c =
     let f = c .before .before in
     let g = f .before .before .before in
-    inl (on g, some g, record { place = refl; latest = f .front .ensures; total = with-refused (p g .total) (f .front .result) (c .if3 .taken) })
+    inl (on g, some g, record { read = refl; latest = f .front .ensures; total = with-refused (p g .total) (f .front .result) (c .if3 .taken) })
 
 -- the file is accepted
 module _ (c : tie.Else3) where
@@ -67,19 +67,19 @@ module _ (c : tie.Else3) where
   bounds = told-bounded (s here) (read .front .result) (read .front .ensures)
 
 add-files : tie.Need-add-files
-add-files c = let o = on (here (c .before)) in omega (arith, o .files, o .room)
+add-files c = omega (arith, on (here (c .before)))
 
 add-coins : tie.Need-add-coins
-add-coins c = let e = c .before .before .before in let o = on (here e) in omega (arith, o .coins, o .room, bounds e .coins)
+add-coins c = let e = c .before .before .before in omega (arith, on (here e), bounds e)
 
 add-rejects : tie.Need-add-rejects
-add-rejects c = let e = c .before .before .before .before .before in let o = on (here e) in omega (arith, o .rejects, o .room, bounds e .rejects)
+add-rejects c = let e = c .before .before .before .before .before in omega (arith, on (here e), bounds e)
 
 returns-4 : tie.Need-returns-4
 returns-4 c =
     let e = c .before .before .before .before .before in
     let g = here e in
-    inl (on g, some g, record { place = refl; latest = read e .front .ensures; total = with-accepted (p g .total) (read e .front .result) (e .if3 .left) })
+    inl (on g, some g, record { read = refl; latest = read e .front .ensures; total = with-accepted (p g .total) (read e .front .result) (e .if3 .left) })
 
 pub next-spec : {M : Type 1} → statement M
 next-spec =
@@ -88,7 +88,7 @@ next-spec =
     returns
     goes-on-requires
     returns-2
-    add-place
+    add-read
     front-requires
     returns-3
     add-files

@@ -1,6 +1,4 @@
 -- `report::start` meets its contract. Assumes nothing.
-use mathlib.Core.Path.{_≡_, refl}
-use mathlib.Core.List.{[]}
 use Rattle.report.specs.Report.{noReport}
 use Rattle.report.specs.Total.{totalOf}
 use borrow.Author.Needs.{needs}
@@ -12,7 +10,7 @@ refused-requires c κs = search needs
 
 returns : tie.Need-returns
 unfolding noReport totalOf
-returns c = let e = c .refused .ensures in λ i. record { place = 0; latest = e i; total = record { files = 0; coins = 0; rejects = 0 } }
+returns c = let e = c .refused .ensures in λ i. record { read = 0; latest = e i; total = record { files = 0; coins = 0; rejects = 0 } }
 
 pub start-spec : {M : Type 1} → statement M
 start-spec = tie.close (tie.spec refused-requires returns)

@@ -1,6 +1,6 @@
 -- `stored::file_end` meets its contract. Assumes nothing.
 use mathlib.Core.Path.{_≡_}
-use Prim.Native.Nat.{ℕ, _*_, _%_, _^_, _≤_, _<_}
+use Prim.Native.Nat.{_*_, _%_, _^_, _≤_, _<_}
 use native.Mathlib.Omega.{arith}
 use Rattle.space.specs.Sizes.{maxDim}
 use Rattle.proximity.specs.LineLaws.{S-small}
