@@ -6,17 +6,16 @@ use Prim.Native.Nat.{ℕ, _≤_, _<_}
 use native.Mathlib.Omega.{arith}
 use lib.ListN.{length, take}
 use lib.Pow.{pow-mono}
-use lib.Seq.{take-at, take-take, length-take-le}
+use lib.Seq.{take-take, length-take-le}
 use Rattle.lists.specs.Alike.{Alike, alike-answers, alike-back, alike-path, alike-append}
 use Rattle.lists.specs.Answers.{Checks, Answers, Passes, Numbered, answers-after, refused-first, passes-each}
 use Rattle.field.specs.Binary.{degree}
 use Rattle.field.specs.Checks.{not-less}
-use Rattle.stored.specs.Accepted.{Prefix, Accepted, accepted, setting-numbered, prefix-numbered, prefix-passed, prefix-passes}
+use Rattle.stored.specs.Accepted.{Prefix, setting-numbered, prefix-numbered, prefix-passed}
 use Rattle.stored.specs.File.{wordRecordAt, fileEnd, fileLimit, modulusIn, dimIn}
 use Rattle.stored.specs.Reader.{settingChecks, symbolChecks, prefixChecks, fileChecks, readOf}
 use Rattle.stored.specs.declared.Reading.{Reading}
 use Rattle.space.specs.Sizes.{maxDim}
-use Rattle.coins.specs.Answer.{counted-file, counted-length}
 use Rattle.coins.specs.Tally.{Readable}
 use Rattle.coins.specs.Totals.{Swept, countChecks}
 use Rattle.report.specs.Entry.{sizeChecks, entryChecks, fileIn, noEntry, Told}
@@ -147,41 +146,3 @@ window-told s e = (to, from)
           g ∙ ap fileEnd (sym (same-dim s)),
         )
     from (inr ((h, a), g)) = inr ((h, alike-back (entryChecks (windowOn s)) (entryChecks s) (window-checks s) (e .refusal) a), g)
-
--- ---- a file that the counter takes, and what follows it
-
-module _ (f t : List ℕ) (p : Passes (countChecks f)) where
-  abbrev s : List ℕ
-  s = f ++ t
-
-  file-passes : Passes (fileChecks f)
-  file-passes = counted-file f p
-
-  front : take (length f) s ≡ f
-  front = take-at f t (length f) refl
-
-  held : Accepted f
-  held = accepted f file-passes
-
-  wide : wordRecordAt maxDim ≤ length f
-  wide = omega (arith, held .whole, pow-mono {i = 3} {j = dimIn f} (held .records .head .low), held .records .head .low)
-
-  dim-same : dimIn f ≡ dimIn s
-  dim-same = subst (λ (g : List ℕ). dimIn g ≡ dimIn s) front (dimension (length f) s wide)
-
-  ends : fileEnd (dimIn s) ≡ length f
-  ends = ap (λ (j : ℕ). fileEnd j) (sym dim-same) ∙ sym (held .whole)
-
-  -- bytes that follow are no refusal
-  pub following-passes : Passes (entryChecks s)
-  following-passes =
-      let parts = passes-each (settingChecks f) (symbolChecks f (dimIn f) (degree (modulusIn f))) (setting-numbered f) (prefix-passes f (held .records)) in
-      records-answer s 0
-      (alike-answers (settingChecks f) (settingChecks s) (subst (λ (g : List ℕ). Alike (settingChecks g) (settingChecks s)) front (setting-alike (length f) s wide)) 0 (parts .0))
-      (omega (arith, ends, counted-length f p))
-      (alike-answers (symbolChecks f (dimIn f) (degree (modulusIn f))) (symbolChecks s (dimIn s) (degree (modulusIn s)))
-      (subst (λ (g : List ℕ). Alike (symbolChecks g (dimIn g) (degree (modulusIn g))) (symbolChecks s (dimIn s) (degree (modulusIn s)))) front (symbol-alike (length f) s wide (omega (arith, ends)))) 0 (parts .1))
-
-  -- and the next file begins where this one ends
-  pub following-file : (fileIn s ≡ f) × (fileEnd (dimIn s) ≡ length f)
-  following-file = (ap (λ (n : ℕ). take n s) ends ∙ front, ends)

@@ -7,5 +7,6 @@ pub mod Prefix
 pub mod EntryLaws
 pub mod TotalLaws
 pub mod Bounds
+pub mod Following
 pub mod OneReport
 pub mod Steps

@@ -10,11 +10,11 @@ pub accepted-most : (r n : ℕ) → ifAccepted r n ≤ n
 accepted-most zero n = omega arith
 accepted-most (suc r) n = omega arith
 
-accepted-all : (r n : ℕ) → r ≡ 0 → ifAccepted r n ≡ n
+pub accepted-all : (r n : ℕ) → r ≡ 0 → ifAccepted r n ≡ n
 accepted-all zero n z = refl
 accepted-all (suc r) n z = absurd (omega arith)
 
-accepted-none : (r n : ℕ) → (r ≡ 0 → ⊥) → ifAccepted r n ≡ 0
+pub accepted-none : (r n : ℕ) → (r ≡ 0 → ⊥) → ifAccepted r n ≡ 0
 accepted-none zero n z = absurd (z refl)
 accepted-none (suc r) n z = refl
 

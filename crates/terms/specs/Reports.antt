@@ -1,12 +1,14 @@
 -- The printed sentences for the report over a stream of stored files. `Told s e` is the contract of report's `front` for its answer e on the
 -- stream s, `Next` that of `next`; `Reported s es t` says that es and t are the report on the stream s.
-use mathlib.Core.Path.{_≡_, _∙_}
+use mathlib.Core.Path.{_≡_, sym, ap, _∙_}
 use mathlib.Core.Logic.{inl, inr, _↔_}
-use mathlib.Core.List.{List, _++_}
-use Prim.Native.Nat.{ℕ, _+_, _-_, _≤_}
+use mathlib.Core.Bool.{Bool}
+use mathlib.Core.List.{List, [], _++_}
+use Prim.Native.Nat.{ℕ, _+_, _-_, _≤_, _<_}
 use native.Mathlib.Omega.{arith}
 use lib.ListN.{length, take, drop}
 use Rattle.lists.specs.Answers.{Passes, not-refused}
+use Rattle.lists.specs.Decides.{Decides}
 use Rattle.field.specs.Symbols.{symbols}
 use Rattle.proximity.specs.Dim.{dim}
 use Rattle.proximity.specs.Proof.{Honest}
@@ -17,10 +19,12 @@ use Rattle.coins.specs.Totals.{countChecks}
 use Rattle.coins.specs.declared.Counts.{Counts}
 use Rattle.report.specs.Entry.{entryChecks, fileIn, Told}
 use Rattle.report.specs.EntryLaws as laws
+use Rattle.report.specs.Following as following
 use Rattle.report.specs.OneReport as one
-use Rattle.report.specs.Report.{mostFiles, noReport, Next, Reported}
+use Rattle.report.specs.Report.{mostFiles, GoesOn, noReport, Next, Reported}
 use Rattle.report.specs.Steps as steps
 use Rattle.report.specs.Steps.{Steps}
+use Rattle.report.specs.Total.{totalOf}
 use Rattle.report.specs.Window as window
 use Rattle.report.specs.Window.{windowOn, Slid}
 use Rattle.report.specs.declared.Entry.{Entry}
@@ -32,6 +36,15 @@ use Rattle.terms.specs.Counts.{none-exactly}
 
 pub one-entry : (s : List ℕ) (d e : Entry) → Told s d → Told s e → d ≡ e
 one-entry = one.one-entry
+
+pub one-start : (q r : Report) → q ≡ noReport → r ≡ noReport → q ≡ r
+one-start q r e g = e ∙ sym g
+
+pub one-going-on : (p : Report) (a b : Bool) → Decides a (GoesOn p) → Decides b (GoesOn p) → a ≡ b
+one-going-on p a b (inl (e, g)) (inl (h, k)) = e ∙ sym h
+one-going-on p a b (inl (e, g)) (inr (h, k)) = absurd (k g)
+one-going-on p a b (inr (e, g)) (inl (h, k)) = absurd (g k)
+one-going-on p a b (inr (e, g)) (inr (h, k)) = e ∙ sym h
 
 pub one-next : (s : List ℕ) (p q r : Report) → Next s p q → Next s p r → q ≡ r
 one-next = one.one-next
@@ -58,12 +71,25 @@ window-slid = window.window-slid
 pub steps-report : (s : List ℕ) (es : List Entry) (q : Report) → Steps (mostFiles + 1) s noReport es q → Reported s es (q .total)
 steps-report = steps.steps-report
 
+-- Past as many files as are read, nothing that follows changes the report.
+pub past-the-last : (s u : List ℕ) (es : List Entry) (t : Total) → Reported s es t → t .files ≡ mostFiles → Reported (s ++ u) es t
+past-the-last = following.past-the-last
+
+-- No bytes give no entries, and zeros for the total.
+pub no-files : (es : List Entry) (t : Total) → Reported [] es t → (es ≡ []) × (t ≡ record { files = 0; coins = 0; rejects = 0 })
+unfolding totalOf
+no-files es t (l, e) = (l, e ∙ ap totalOf l)
+
+-- Fewer than 7 bytes, one stray byte for one, get 11.
+pub too-short : (s : List ℕ) (e : Entry) → length s < 7 → Told s e → e .refusal ≡ 11
+too-short = following.too-short
+
 -- ---- an entry and the coin counter
 
 -- A file that the counter takes is an entry, whatever follows it, and the next file begins where it ends.
 pub whatever-follows : (f t : List ℕ) (e : Entry) → Passes (countChecks f) → Told (f ++ t) e → (e .refusal ≡ 0) × (e .end ≡ length f)
-whatever-follows f t e p (inl (q, z, s, g)) = (z, g ∙ laws.following-file f t p .1)
-whatever-follows f t e p (inr (r, g)) = absurd (not-refused (entryChecks (f ++ t)) (laws.following-passes f t p) r)
+whatever-follows f t e p (inl (q, z, s, g)) = (z, g ∙ following.following-file f t p .1)
+whatever-follows f t e p (inr (r, g)) = absurd (not-refused (entryChecks (f ++ t)) (following.following-passes f t p) r)
 
 -- The entry of an accepted file has the counter's numbers of that file.
 pub entry-as-counted : (s : List ℕ) (e : Entry) (c : Counts) → Told s e → e .refusal ≡ 0 → counter.Told (fileIn s) c
