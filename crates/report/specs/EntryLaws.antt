@@ -30,6 +30,10 @@ size-passed : (k : ℕ) → Passes (sizeChecks k) → fileEnd k ≤ fileLimit
 size-passed k (inl a) = absurd (omega arith)
 size-passed k (inr a) = not-less (a .0)
 
+-- a file has more bytes than any setting record
+pub setting-inside : (k : ℕ) → 3 ≤ k → wordRecordAt maxDim ≤ fileEnd k
+setting-inside k h = omega (arith, pow-mono {i = 3} {j = k} h)
+
 -- ---- the answers on the way
 
 module _ (s : List ℕ) where
@@ -76,7 +80,7 @@ module _ (s : List ℕ) where
     entry-limit = parts .1
 
     long : wordRecordAt maxDim ≤ fileEnd k
-    long = omega (arith, pow-mono {i = 3} {j = k} (entry-records .head .low), entry-records .head .low)
+    long = setting-inside k (entry-records .head .low)
 
     abbrev file : List ℕ
     file = fileIn s

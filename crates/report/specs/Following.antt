@@ -5,7 +5,6 @@ use mathlib.Core.List.{List, [], _∷_, _++_, append-assoc}
 use Prim.Native.Nat.{ℕ, zero, suc, _≤_, _<_}
 use native.Mathlib.Omega.{arith}
 use lib.ListN.{length, take, drop, take-append-drop}
-use lib.Pow.{pow-mono}
 use lib.Seq.{take-at, drop-append-le}
 use Rattle.lists.specs.Alike.{Alike, alike-answers}
 use Rattle.lists.specs.Answers.{Passes, passes-each}
@@ -16,8 +15,9 @@ use Rattle.stored.specs.File.{wordRecordAt, fileEnd, modulusIn, dimIn}
 use Rattle.stored.specs.Reader.{settingChecks, symbolChecks, fileChecks}
 use Rattle.coins.specs.Answer.{counted-file, counted-length}
 use Rattle.coins.specs.Totals.{Swept, countChecks}
+use Rattle.report.specs.Bounds.{told-bounded}
 use Rattle.report.specs.Entry.{entryChecks, fileIn, Told}
-use Rattle.report.specs.EntryLaws.{records-answer, entry-present, entry-counted, file-length}
+use Rattle.report.specs.EntryLaws.{setting-inside, records-answer, entry-counted, file-length}
 use Rattle.report.specs.Prefix.{dimension, setting-alike, symbol-alike}
 use Rattle.report.specs.Report.{mostFiles, Entries, Reported}
 use Rattle.report.specs.Total.{sumOf, totalOf}
@@ -41,7 +41,7 @@ module _ (f t : List ℕ) (p : Passes (countChecks f)) where
   held = accepted f file-passes
 
   wide : wordRecordAt maxDim ≤ length f
-  wide = omega (arith, held .whole, pow-mono {i = 3} {j = dimIn f} (held .records .head .low), held .records .head .low)
+  wide = omega (arith, held .whole, setting-inside (dimIn f) (held .records .head .low))
 
   dim-same : dimIn f ≡ dimIn s
   dim-same = subst (λ (g : List ℕ). dimIn g ≡ dimIn s) front (dimension (length f) s wide)
@@ -82,10 +82,6 @@ told-longer s u e (inl (p, y, t, g)) z =
       g ∙ sym (file-length s p) ∙ sym end,
     ))
 
-told-end : (s : List ℕ) (e : Entry) → Told s e → e .refusal ≡ 0 → e .end ≤ length s
-told-end s e (inl (p, y, t, g)) z = omega (arith, entry-present s p)
-told-end s e (inr ((l, a), g)) z = absurd (omega arith)
-
 -- all n files are accepted
 entries-longer : (n : ℕ) (s u : List ℕ) (es : List Entry) → Entries n s es → sumOf (λ x. 1) es ≡ n → Entries n (s ++ u) es
 entries-longer zero s u es l h = l
@@ -99,7 +95,7 @@ entries-longer (suc n) (b ∷ s) u es (e, rest, t, g, inl (z, l)) h = (
   g,
   inl (
     z,
-    subst (λ (xs : List ℕ). Entries n xs rest) (sym (drop-append-le (e .end) (b ∷ s) u (told-end (b ∷ s) e t z)))
+    subst (λ (xs : List ℕ). Entries n xs rest) (sym (drop-append-le (e .end) (b ∷ s) u (told-bounded (b ∷ s) e t .end)))
         (entries-longer n (drop (e .end) (b ∷ s)) u rest l (omega (arith, h, ap (sumOf (λ x. 1)) g, accepted-all (e .refusal) 1 z))),
   ),
 )

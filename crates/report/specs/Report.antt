@@ -34,13 +34,17 @@ Reported s es total = Entries mostFiles s es × (total ≡ totalOf es)
 
 -- ---- one file after the other
 
--- one more file is read: the latest was accepted, there is room for one, and the total is no more than so many files can have
+-- the total t is no more than n files can have
+pub record Fair (n : ℕ) (t : Total) : Type 0 where
+  pub files : t .files ≤ n
+  pub coins : t .coins ≤ n * mostCoins
+  pub rejects : t .rejects ≤ n * mostCoins
+
+-- one more file is read: the latest was accepted, there is room for one, and the total is one that so many files can have
 pub record GoesOn (p : Report) : Type 0 where
   pub accepted : p .latest .refusal ≡ 0
   pub room : p .read < mostFiles
-  pub files : p .total .files ≤ p .read
-  pub coins : p .total .coins ≤ p .read * mostCoins
-  pub rejects : p .total .rejects ≤ p .read * mostCoins
+  pub fair : Fair (p .read) (p .total)
 
 -- the report before the first file
 unfoldable pub noReport : Report

@@ -2,7 +2,7 @@
 use mathlib.Core.Path.{_≡_, refl, sym, ap, _∙_, subst}
 use mathlib.Core.Logic.{_⊎_, inl, inr}
 use mathlib.Core.List.{List, [], _∷_}
-use Prim.Native.Nat.{ℕ, zero, suc, _+_, _*_, _≤_, _<_}
+use Prim.Native.Nat.{ℕ, zero, suc, _+_, _<_}
 use native.Mathlib.Decide.{ℕ-discrete}
 use native.Mathlib.Omega.{arith}
 use lib.ListN.{length, drop, length-take}
@@ -10,7 +10,7 @@ use Rattle.stored.specs.File.{fileLimit}
 use Rattle.report.specs.Bounds.{told-bounded}
 use Rattle.report.specs.Entry.{noEntry, Told}
 use Rattle.report.specs.EntryLaws.{window-told}
-use Rattle.report.specs.Report.{mostFiles, mostCoins, Entries, Reported, GoesOn, noReport, Added, Next}
+use Rattle.report.specs.Report.{mostFiles, Entries, Reported, Fair, GoesOn, noReport, Added, Next}
 use Rattle.report.specs.Total.{sumOf, totalOf, withEntry}
 use Rattle.report.specs.TotalLaws.{accepted-most}
 use Rattle.report.specs.Window.{windowOn}
@@ -28,12 +28,6 @@ Steps (suc n) s p es q =
     ⊎ ((GoesOn p × (0 < length s) → ⊥) × (es ≡ []) × (q ≡ p))
 
 -- ---- the total on the way
-
--- no more than so many files can have
-record Fair (p : Report) : Type 0 where
-  files : p .total .files ≤ p .read
-  coins : p .total .coins ≤ p .read * mostCoins
-  rejects : p .total .rejects ≤ p .read * mostCoins
 
 -- u is t with the accepted files of es
 record Sums (t : Total) (es : List Entry) (u : Total) : Type 0 where
@@ -54,7 +48,7 @@ module _ {s : List ℕ} {p r : Report} (a : Added s p r) where
         rejects = ap (λ (t : Total). t .rejects) (a .total) ∙ omega arith;
       }
 
-  fair-next : Fair p → Fair r
+  fair-next : Fair (p .read) (p .total) → Fair (r .read) (r .total)
   fair-next f =
       let b = told-bounded s latest (a .latest) in
       record {
@@ -79,8 +73,8 @@ sums-none {es} {p} {q} e g =
 
 -- ---- the entries on the way
 
-goes-on : {p : Report} → Fair p → p .latest .refusal ≡ 0 → p .read < mostFiles → GoesOn p
-goes-on f z h = record { accepted = z; room = h; files = f .files; coins = f .coins; rejects = f .rejects }
+goes-on : {p : Report} → Fair (p .read) (p .total) → p .latest .refusal ≡ 0 → p .read < mostFiles → GoesOn p
+goes-on f z h = record { accepted = z; room = h; fair = f }
 
 -- past a refused file nothing is read
 stopped : (n : ℕ) (s : List ℕ) (p q : Report) (es : List Entry) → (p .latest .refusal ≡ 0 → ⊥) → Steps n s p es q → (es ≡ []) × (q ≡ p)
@@ -92,7 +86,7 @@ stopped (suc n) s p q es z (inr (g, e, d)) = (e, d)
 abbrev Right : ℕ → List ℕ → Report → List Entry → Report → Type 0
 Right m s p es q = Entries m s es × Sums (p .total) es (q .total)
 
-module _ (p : Report) (f : Fair p) (z : p .latest .refusal ≡ 0) (es : List Entry) (q : Report) where
+module _ (p : Report) (f : Fair (p .read) (p .total)) (z : p .latest .refusal ≡ 0) (es : List Entry) (q : Report) where
   -- the report has ended
   ends : (m : ℕ) (s : List ℕ) → p .read + m ≡ mostFiles → (GoesOn p × (0 < length s) → ⊥) → es ≡ [] → q ≡ p → Right m s p es q
   ends zero s h g e d = (e, sums-none e d)
@@ -114,17 +108,18 @@ module _ (p : Report) (f : Fair p) (z : p .latest .refusal ≡ 0) (es : List Ent
 seen : (b : ℕ) (s : List ℕ) → 0 < length (windowOn (b ∷ s))
 seen b s = omega (arith, length-take fileLimit (b ∷ s))
 
-added : (b : ℕ) (s : List ℕ) (p r : Report) → GoesOn p → Next (windowOn (b ∷ s)) p r → Added (windowOn (b ∷ s)) p r
-added b s p r g (inl (o, h, a)) = a
-added b s p r g (inr (n, e)) = absurd (n (g, seen b s))
+-- the report that goes on has one file more
+pub next-added : (s : List ℕ) (p r : Report) → GoesOn p → 0 < length s → Next s p r → Added s p r
+next-added s p r g h (inl (o, k, a)) = a
+next-added s p r g h (inr (n, e)) = absurd (n (g, h))
 
-steps-right : (n m : ℕ) (s : List ℕ) (p q : Report) (es : List Entry) → Fair p → p .latest .refusal ≡ 0 → p .read + m ≡ mostFiles → m < n → Steps n s p es q → Right m s p es q
+steps-right : (n m : ℕ) (s : List ℕ) (p q : Report) (es : List Entry) → Fair (p .read) (p .total) → p .latest .refusal ≡ 0 → p .read + m ≡ mostFiles → m < n → Steps n s p es q → Right m s p es q
 steps-right zero m s p q es f z h l t = absurd (omega arith)
 steps-right (suc n) m s p q es f z h l (inr (g, e, d)) = ends p f z es q m s h g e d
 steps-right (suc n) zero s p q es f z h l (inl (g, y, t)) = absurd (omega (arith, g .room))
 steps-right (suc n) (suc m) [] p q es f z h l (inl (g, y, t)) = absurd (omega arith)
 steps-right (suc n) (suc m) (b ∷ s) p q es f z h l (inl (g, y, (r, rest, x, e, t))) =
-    let a = added b s p r g x in
+    let a = next-added (windowOn (b ∷ s)) p r g (seen b s) x in
     by a (ℕ-discrete (r .latest .refusal) 0) (λ k. steps-right n m (drop (r .latest .end) (b ∷ s)) r q rest (fair-next a f) k (omega (arith, a .read)) (omega arith) t)
   where
     by : Added (windowOn (b ∷ s)) p r → Dec (r .latest .refusal ≡ 0) → (r .latest .refusal ≡ 0 → Right m (drop (r .latest .end) (b ∷ s)) r rest q) → Right (suc m) (b ∷ s) p es q

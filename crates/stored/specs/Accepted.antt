@@ -16,7 +16,7 @@ use Rattle.space.specs.declared.Checked.{Checked}
 use Rattle.space.specs.declared.Setting.{Setting}
 use Rattle.proximity.specs.Dim.{S}
 use Rattle.stored.specs.File.{wordRecordAt, wordAt, proofRecordAt, proofAt, fileEnd, modulusIn, dimIn, basisIn}
-use Rattle.stored.specs.Passed.{Head, head-numbered, head-passed, head-passes, in-range, Held, record-numbered, record-passed, record-passes}
+use Rattle.stored.specs.Passed.{Head, length-basis, head-numbered, head-passed, head-passes, in-range, Held, record-numbered, record-passed, record-passes}
 use Rattle.stored.specs.Reader.{headChecks, basisChecks, settingChecks, wordChecks, proofChecks, symbolChecks, prefixChecks, fileChecks, SettingRead, readOf, noRead, Told}
 use Rattle.stored.specs.declared.Reading.{Reading}
 
@@ -61,6 +61,9 @@ module _ (f : List ℕ) where
   pub setting-ready : (s : Setting) → SettingRead f s → Ready (modulusIn f) (basisIn f) s
   setting-ready s (p, e) =
       ready (modulusIn f) (basisIn f) (record { refusal = 0; setting = s }) (inl (sound-passes (modulusIn f) (basisIn f) (setting-passed p .1), refl, e)) refl
+
+  pub setting-dimension : (s : Setting) → SettingRead f s → s .space .k ≡ dimIn f
+  setting-dimension s r = setting-ready s r .dimension ∙ length-basis f
 
   pub setting-refuses : (c : Checked) → SettledBy (settingChecks f) (modulusIn f) (basisIn f) c → (c .refusal ≡ 0 → ⊥) → Refuses (settingChecks f) (c .refusal)
   setting-refuses c (inl (p, z, e)) n = absurd (n z)

@@ -12,14 +12,13 @@ use Rattle.field.specs.Laws.{Ops}
 use Rattle.field.specs.Symbols.{symbols}
 use Rattle.poly.specs.Codeword.{Basis}
 use Rattle.space.specs.Images.{Images}
-use Rattle.space.specs.Ready.{Ready, ready}
-use Rattle.space.specs.Sound.{sound-passes}
+use Rattle.space.specs.Ready.{Ready}
 use Rattle.proximity.specs.Dim.{S, R}
 use Rattle.verifier.specs.Checker.{Answered}
 use Rattle.verifier.specs.Parts.{InSpace, ready-space}
 use Rattle.verifier.specs.declared.Verdict.{Verdict}
 use Rattle.verifier.specs.declared.Verdict.the-variants.{Accept, Reject, Refused}
-use Rattle.stored.specs.Accepted.{Accepted, accepted, prefix-numbered, Places, read-places, told-accepted, told-refuses}
+use Rattle.stored.specs.Accepted.{Accepted, accepted, setting-passes, setting-ready, prefix-numbered, Places, read-places, told-accepted, told-refuses}
 use Rattle.stored.specs.Bytes.{numbersAt}
 use Rattle.stored.specs.Check.{coinChecks, AnsweredFile, Laid, Judged}
 use Rattle.stored.specs.File.{fileEnd, modulusIn, dimIn, basisIn, wordIn, proofIn}
@@ -67,8 +66,8 @@ module _ (f : List ℕ) (r : Reading) (t : Told (fileChecks f) f r) (z : r .refu
   pub read-ready : Ready (modulusIn f) (basisIn f) (r .setting)
   unfolding readOf
   read-ready =
-      ready (modulusIn f) (basisIn f) (record { refusal = 0; setting = r .setting })
-      (inl (sound-passes (modulusIn f) (basisIn f) (held .records .setting), refl, ap (λ (x : Reading). x .setting) (told-accepted f (fileChecks f) r t z .1))) refl
+      setting-ready f (r .setting)
+      (setting-passes f (held .records .head) (held .records .setting), ap (λ (x : Reading). x .setting) (told-accepted f (fileChecks f) r t z .1))
 
   modulus : r .setting .field .modulus ≡ modulusIn f
   modulus = read-ready .modulus

@@ -86,9 +86,9 @@ too-short = following.too-short
 
 -- ---- an entry and the coin counter
 
--- A file that the counter takes is an entry, whatever follows it, and the next file begins where it ends.
-pub whatever-follows : (f t : List ℕ) (e : Entry) → Passes (countChecks f) → Told (f ++ t) e → (e .refusal ≡ 0) × (e .end ≡ length f)
-whatever-follows f t e p (inl (q, z, s, g)) = (z, g ∙ following.following-file f t p .1)
+-- A file that the counter takes is accepted in a stream, whatever follows it: it is the file of its entry, and the next one begins where it ends.
+pub whatever-follows : (f t : List ℕ) (e : Entry) → Passes (countChecks f) → Told (f ++ t) e → (e .refusal ≡ 0) × (fileIn (f ++ t) ≡ f) × (e .end ≡ length f)
+whatever-follows f t e p (inl (q, z, s, g)) = let (file, end) = following.following-file f t p in (z, file, g ∙ end)
 whatever-follows f t e p (inr (r, g)) = absurd (not-refused (entryChecks (f ++ t)) (following.following-passes f t p) r)
 
 -- The entry of an accepted file has the counter's numbers of that file.

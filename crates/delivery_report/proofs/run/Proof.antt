@@ -1,6 +1,5 @@
 -- `delivery_report::run` is safe and ends. The loop's invariant: the window has its size, and n bytes of it are held. Each turn reads one file more. Assumes nothing.
 use mathlib.Core.Path.{_≡_, sym, _∙_}
-use mathlib.Core.Logic.{inl, inr}
 use mathlib.Core.List.{List}
 use Prim.Native.Nat.{ℕ, _+_, _-_, _≤_}
 use native.Mathlib.Omega.{arith}
@@ -10,7 +9,8 @@ use Rattle.lists.specs.Decides.{decides-true}
 use Rattle.lists.specs.Overwrite.{length-put}
 use Rattle.stored.specs.File.{fileLimit}
 use Rattle.report.specs.Bounds.{told-bounded}
-use Rattle.report.specs.Report.{mostFiles, GoesOn, Added, Next}
+use Rattle.report.specs.Report.{mostFiles, GoesOn, Added}
+use Rattle.report.specs.Steps.{next-added}
 use Rattle.report.specs.declared.Report.{Report}
 use borrow.Rule.Slice.PartMut.{putMid}
 use borrow.Author.Needs.{needs}
@@ -97,11 +97,7 @@ module _ (c : tie.After-next Inv-loop μ-loop) where
   on = let t = filled .before .before in decides-true (GoesOn p) (t .before .goes-on .ensures) (t .if1 .taken)
 
   added : Added (take (held filled) (bytes filled)) p (c .next .result)
-  added = go (c .next .ensures)
-    where
-      go : Next (take (held filled) (bytes filled)) p (c .next .result) → Added (take (held filled) (bytes filled)) p (c .next .result)
-      go (inl (g, h, a)) = a
-      go (inr (g, e)) = absurd (g (on, omega (arith, seen filled, c .before .before .if2 .left)))
+  added = next-added (take (held filled) (bytes filled)) p (c .next .result) on (omega (arith, seen filled, c .before .before .if2 .left)) (c .next .ensures)
 
   fits : c .next .result .latest .end ≤ held filled
   fits = omega (arith, told-bounded (take (held filled) (bytes filled)) (c .next .result .latest) (added .latest) .end, seen filled)

@@ -9,9 +9,9 @@ use lib.Seq.{length-take-le}
 use Rattle.lists.specs.Answers.{Answers, Passes}
 use Rattle.field.specs.Binary.{degree}
 use Rattle.space.specs.declared.Setting.{Setting}
-use Rattle.stored.specs.Accepted.{setting-passed, setting-refuses, setting-ready, read-setting, told-accepted, told-refuses}
+use Rattle.stored.specs.Accepted.{setting-passed, setting-refuses, setting-dimension, read-setting, told-accepted, told-refuses}
 use Rattle.stored.specs.File.{fileEnd, fileLimit, modulusIn, dimIn}
-use Rattle.stored.specs.Passed.{Head, length-basis}
+use Rattle.stored.specs.Passed.{Head}
 use Rattle.stored.specs.Reader.{symbolChecks, SettingRead, readOf}
 use Rattle.stored.specs.declared.Reading.{Reading}
 use Rattle.coins.specs.Totals.{Swept}
@@ -49,7 +49,7 @@ module _ (c : tie.Else1) where
   head = setting-passed bytes (given .0) .0
 
   dimension : found .space .k ≡ dimIn bytes
-  dimension = setting-ready bytes found given .dimension ∙ length-basis bytes
+  dimension = setting-dimension bytes found given
 
 file-end-requires : tie.Need-file-end-requires
 file-end-requires c κs = omega (arith, dimension c, head c .high)

@@ -16,13 +16,13 @@ mul-most : tie.Need-mul-most
 mul-most c = search needs
 
 returns-3 : tie.Need-returns-3
-returns-3 c = inr (refl, λ g. omega (arith, g .files, c .if3 .taken))
+returns-3 c = inr (refl, λ g. omega (arith, g .fair .files, c .if3 .taken))
 
 returns-4 : tie.Need-returns-4
-returns-4 c = inr (refl, λ g. omega (arith, g .coins, c .if4 .taken))
+returns-4 c = inr (refl, λ g. omega (arith, g .fair .coins, c .if4 .taken))
 
 returns-5 : tie.Need-returns-5
-returns-5 c = inr (refl, λ g. omega (arith, g .rejects, c .if5 .taken))
+returns-5 c = inr (refl, λ g. omega (arith, g .fair .rejects, c .if5 .taken))
 
 returns-6 : tie.Need-returns-6
 returns-6 c =
@@ -34,9 +34,7 @@ returns-6 c =
       record {
         accepted = f .before .if1 .left;
         room = omega (arith, f .if2 .left);
-        files = omega (arith, e .if3 .left);
-        coins = omega (arith, d .if4 .left);
-        rejects = omega (arith, c .if5 .left);
+        fair = record { files = omega (arith, e .if3 .left); coins = omega (arith, d .if4 .left); rejects = omega (arith, c .if5 .left) };
       },
     )
 

@@ -1,5 +1,5 @@
 -- `stored::read_symbols` meets its contract. Assumes nothing.
-use mathlib.Core.Path.{_≡_, _∙_, subst}
+use mathlib.Core.Path.{_≡_, subst}
 use mathlib.Core.Logic.{inl}
 use mathlib.Core.List.{List}
 use Prim.Native.Nat.{ℕ, _*_, _%_, _^_, _≤_, _<_}
@@ -10,9 +10,9 @@ use Rattle.space.specs.Ready.{Ready}
 use Rattle.space.specs.Sizes.{maxDim}
 use Rattle.space.specs.declared.Setting.{Setting}
 use Rattle.proximity.specs.LineLaws.{S-small}
-use Rattle.stored.specs.Accepted.{setting-passed, setting-ready, told-number, read-made}
+use Rattle.stored.specs.Accepted.{setting-passed, setting-ready, setting-dimension, told-number, read-made}
 use Rattle.stored.specs.File.{modulusIn, dimIn, basisIn}
-use Rattle.stored.specs.Passed.{Head, length-basis}
+use Rattle.stored.specs.Passed.{Head}
 use Rattle.stored.specs.Reader.{symbolChecks}
 use Rattle.stored.proofs.Laws.{word-count}
 use borrow.Author.Needs.{needs}
@@ -34,7 +34,7 @@ module _ (c : tie.Start) where
   head = setting-passed bytes (c .pre .0) .0
 
   dimension : found .space .k ≡ dimIn bytes
-  dimension = fit .dimension ∙ length-basis bytes
+  dimension = setting-dimension bytes found (c .pre)
 
   few : found .space .k ≤ maxDim
   few = omega (arith, dimension, head .high)

@@ -1,5 +1,5 @@
 -- `delivery::checks::refusal` meets its contract. Assumes nothing.
-use mathlib.Core.Path.{_≡_, _∙_, subst}
+use mathlib.Core.Path.{_≡_, subst}
 use mathlib.Core.List.{List}
 use Prim.Native.Nat.{ℕ}
 use native.Mathlib.Omega.{arith}
@@ -7,9 +7,9 @@ use Rattle.lists.specs.Answers.{Answers}
 use Rattle.field.specs.Binary.{degree}
 use Rattle.space.specs.Ready.{Ready}
 use Rattle.space.specs.declared.Setting.{Setting}
-use Rattle.stored.specs.Accepted.{setting-passed, setting-ready, setting-refuses, read-setting}
+use Rattle.stored.specs.Accepted.{setting-passed, setting-ready, setting-dimension, setting-refuses, read-setting}
 use Rattle.stored.specs.File.{modulusIn, dimIn, basisIn}
-use Rattle.stored.specs.Passed.{Head, length-basis}
+use Rattle.stored.specs.Passed.{Head}
 use Rattle.stored.specs.Reader.{SettingRead}
 use Rattle.delivery.specs.Message.{roomChecks, coefficientChecks}
 use Rattle.delivery.specs.MessageLaws.{setting-refused, room-refused, coefficient-answer}
@@ -48,7 +48,7 @@ module _ (c : tie.Else1) where
   head = setting-passed t (given .0) .0
 
   dimension : found .space .k ≡ dimIn t
-  dimension = fit .dimension ∙ length-basis t
+  dimension = setting-dimension t found given
 
 room-refusal-requires : tie.Need-room-refusal-requires
 room-refusal-requires c κs = omega (arith, dimension c, head c .high)
