@@ -8,6 +8,7 @@ mod raw {
         pub fn proximity_encode(modulus: u32, basis: *const u16, n: usize, p: *const u16, np: usize, word: *mut u16, w: usize, scratch: *mut u16, s: usize) -> u32;
         pub fn proximity_decode(modulus: u32, basis: *const u16, n: usize, word: *const u16, w: usize, p: *mut u16, np: usize, scratch: *mut u16, s: usize) -> u32;
         pub fn proximity_prove(modulus: u32, basis: *const u16, n: usize, word: *const u16, w: usize, proof: *mut u16, p: usize, scratch: *mut u16, s: usize) -> u32;
+        pub fn proximity_correct(modulus: u32, basis: *const u16, n: usize, word: *const u16, w: usize, corrected: *mut u16, c: usize, scratch: *mut u16, s: usize) -> u64;
         pub fn proximity_check(modulus: u32, basis: *const u16, n: usize, word: *const u16, w: usize, proof: *const u16, p: usize, coin: u64) -> u64;
         pub fn proximity_write(modulus: u32, basis: *const u16, n: usize, word: *const u16, w: usize, proof: *const u16, p: usize, out: *mut u8, o: usize) -> u32;
         pub fn proximity_make(message: *const u8, n: usize, out: *mut u8, o: usize) -> u32;
@@ -47,6 +48,11 @@ pub fn decode(m: u32, b: &[u16], w: &[u16], p: &mut [u16], s: &mut [u16]) -> u32
 
 pub fn prove(m: u32, b: &[u16], w: &[u16], p: &mut [u16], s: &mut [u16]) -> u32 {
     unsafe { raw::proximity_prove(m, b.as_ptr(), b.len(), w.as_ptr(), w.len(), p.as_mut_ptr(), p.len(), s.as_mut_ptr(), s.len()) }
+}
+
+/// The number of differences, or 65536 and the number of a refusal.
+pub fn correct(m: u32, b: &[u16], w: &[u16], out: &mut [u16], s: &mut [u16]) -> u64 {
+    unsafe { raw::proximity_correct(m, b.as_ptr(), b.len(), w.as_ptr(), w.len(), out.as_mut_ptr(), out.len(), s.as_mut_ptr(), s.len()) }
 }
 
 pub fn check(m: u32, b: &[u16], w: &[u16], p: &[u16], coin: u64) -> u64 {

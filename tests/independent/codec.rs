@@ -3,43 +3,45 @@
 use crate::{calls, damage, model, outside, setting, spoil_setting, Draw, Met, Setting, Tally};
 
 /// A setting, the lengths of the word and of the other list, and the scratch.
-struct Case {
-    s: Setting,
+pub struct Case {
+    pub s: Setting,
     k: usize,
     words: usize,
-    others: usize,
+    pub others: usize,
     /// whether both lengths are right
     fits: bool,
-    scratch: Vec<u16>,
+    /// the least scratch that is enough
+    least: usize,
+    pub scratch: Vec<u16>,
 }
 
 impl Case {
-    /// A case of dimension k, whose other list has `right` symbols by law.
-    fn draw(d: &mut Draw, k: usize, right: usize) -> Case {
+    /// A case of dimension k, whose other list has `right` symbols by law, and whose scratch has `least` or more.
+    pub fn draw(d: &mut Draw, k: usize, right: usize, least: usize) -> Case {
         let mut s = setting(d, k);
         if d.below(6) == 0 {
             spoil_setting(d, &mut s);
         }
         let (words, others) = (d.near(1 << k), d.near(right));
         let room = match d.below(8) {
-            0 => (4 << k) - 1 - d.below(3) as usize,
-            1 => (4 << k) + d.below(9) as usize,
-            _ => 4 << k,
+            0 => least - 1 - d.below(3) as usize,
+            1 => least + d.below(9) as usize,
+            _ => least,
         };
-        Case { s, k, words, others, fits: (words, others) == (1 << k, right), scratch: d.list(room, 65536) }
+        Case { s, k, words, others, fits: (words, others) == (1 << k, right), least, scratch: d.list(room, 65536) }
     }
 
     /// Checks 1 to 7.
-    fn first(&self) -> u32 {
+    pub fn first(&self) -> u32 {
         match model::setting(self.s.m, &self.s.b) {
             0 if !self.fits => 6,
-            0 if self.scratch.len() < 4 << self.k => 7,
+            0 if self.scratch.len() < self.least => 7,
             n => n,
         }
     }
 
     /// A codeword, whole or damaged; noise where a check refuses.
-    fn word(&self, d: &mut Draw) -> Vec<u16> {
+    pub fn word(&self, d: &mut Draw) -> Vec<u16> {
         let p = d.list(1 << (self.k - 3), 1 << self.s.l);
         let mut w = if self.first() == 0 { model::word_of(self.s.m, &self.s.b, &p) } else { d.list(self.words, 65536) };
         match d.below(6) {
@@ -63,7 +65,7 @@ fn encoder(t: &mut Tally) {
     let (mut wrong, mut met) = (0, Met::default());
     for _ in 0..4000 {
         let k = 3 + d.below(6) as usize;
-        let x = Case::draw(&mut d, k, 1 << (k - 3));
+        let x = Case::draw(&mut d, k, 1 << (k - 3), 4 << k);
         let range = if d.below(6) == 0 { 65536 } else { 1 << x.s.l };
         let p = d.list(x.others, range);
         let number = match x.first() {
@@ -95,7 +97,7 @@ fn on_words(t: &mut Tally, c: &OnWords) {
     let (mut wrong, mut met) = (0, Met::default());
     for _ in 0..c.rounds {
         let k = 3 + d.below(c.dims) as usize;
-        let x = Case::draw(&mut d, k, (c.length)(k));
+        let x = Case::draw(&mut d, k, (c.length)(k), 4 << k);
         let w = x.word(&mut d);
         let number = match x.first() {
             0 if outside(x.s.m, &w) => 9,

@@ -2,10 +2,12 @@
 mod arithmetic;
 mod calls;
 mod codec;
+mod correction;
 mod file;
 mod files;
 mod largest;
 mod model;
+mod nearest;
 mod report;
 mod stream;
 mod symbols;
@@ -139,6 +141,7 @@ fn main() {
     let mut t = Tally::default();
     symbols::all(&mut t);
     codec::all(&mut t);
+    correction::all(&mut t);
     largest::all(&mut t);
     files::all(&mut t);
     writers::all(&mut t);

@@ -101,7 +101,8 @@ pub fn coin_bits(k: usize) -> u32 {
     1 + (c as u32 + coin_bits(h + 3)).max(h as u32 + 2 + coin_bits(c))
 }
 
-fn roots(m: u32, xs: &[u16]) -> Vec<u16> {
+/// The product of x - a over a list.
+pub fn roots(m: u32, xs: &[u16]) -> Vec<u16> {
     let mut q = vec![1u16];
     for x in xs {
         let mut r = vec![0u16; q.len() + 1];
