@@ -1,6 +1,6 @@
 //! Processor time of the proved calls beside the independent model and beside a plain implementation with tables of logarithms, in one
 //! run, and the time of the delivery report beside that of the counter. The plain implementation checks no input; the proved calls make
-//! all their checks. With a file name, a plot is written there.
+//! all their checks. With two file names, plots are written there: of encoder, decoder and prover, and of the correction.
 #[path = "../tests/independent/arithmetic.rs"]
 mod arithmetic;
 #[path = "../tests/independent/model.rs"]
@@ -9,9 +9,14 @@ mod model;
 #[path = "../tests/independent/file.rs"]
 #[allow(dead_code)]
 mod file;
+#[path = "../tests/independent/nearest.rs"]
+#[allow(dead_code)]
+mod nearest;
 #[path = "../tests/independent/calls.rs"]
 #[allow(dead_code)]
 mod calls;
+mod correction;
+mod gao;
 mod plain;
 mod plot;
 
@@ -80,20 +85,20 @@ fn field(basis: &[u16]) {
     println!("  model                           {:10.1} ns", time(|_| assert_eq!(model::setting(MODULUS, basis), 0)));
 }
 
-/// Microseconds of one operation: proved, with log tables, by the model.
+/// Microseconds of one operation, at some k or number of differences: proved, with log tables, by the model.
 #[derive(Clone, Copy)]
 pub struct Row {
-    pub k: usize,
+    pub at: usize,
     pub proved: f64,
     pub plain: f64,
     pub model: Option<f64>,
 }
 
-fn table(name: &str, rows: &[Row]) {
-    println!("\n{name} (microseconds)\n  k      proved  log tables       ratio       model");
+fn table(name: &str, at: &str, rows: &[Row]) {
+    println!("\n{name} (microseconds)\n{at:>4}      proved  log tables       ratio       model");
     for r in rows {
         let model = r.model.map_or("-".to_string(), |x| format!("{x:.1}"));
-        println!("{:3} {:11.2} {:11.2} {:11.2} {model:>11}", r.k, r.proved, r.plain, r.proved / r.plain);
+        println!("{:4} {:11.2} {:11.2} {:11.2} {model:>11}", r.at, r.proved, r.plain, r.proved / r.plain);
     }
 }
 
@@ -105,7 +110,7 @@ fn dimension(f: &plain::Field, basis: &[u16]) -> [Row; 4] {
     let (mut w, mut q, mut s) = (vec![0u16; 1 << k], vec![0u16; 1 << (k - 3)], vec![0u16; 4 << k]);
     let (mut pi, mut plain_pi) = (vec![0u16; model::proof_length(k)], vec![0u16; model::proof_length(k)]);
     let us = |ns: f64| ns / 1000.0;
-    let row = |proved, plain, model: Option<f64>| Row { k, proved: us(proved), plain: us(plain), model: model.map(us) };
+    let row = |proved, plain, model: Option<f64>| Row { at: k, proved: us(proved), plain: us(plain), model: model.map(us) };
 
     let [proved, fast] = times([
         &mut |_| assert_eq!(calls::encode(MODULUS, basis, &p, &mut w, &mut s), 0),
@@ -211,6 +216,16 @@ fn streams(f: &plain::Field, basis: &[u16]) {
     println!("\n200 stored files at k = 8: report of the stream {whole:.1} ms, counted one by one {single:.1} ms, ratio {:.2}", whole / single);
 }
 
+/// Encoder, decoder and prover against k.
+fn encoding(rows: &[[Row; 4]]) -> plot::Chart {
+    let line = |(i, (name, shift))| plot::Line { name, rows: rows.iter().map(|r: &[Row; 4]| r[i]).collect(), shift };
+    plot::Chart {
+        title: "Processor time of one call against k at l = 16: solid proved, dashed with log tables".to_string(),
+        axis: "k = ",
+        lines: [("encode", -8.0), ("decode", 8.0), ("prove", 0.0)].into_iter().enumerate().map(line).collect(),
+    }
+}
+
 fn main() {
     let basis: Vec<u16> = (0..12).map(|i| 1 << i).collect();
     field(&basis);
@@ -218,12 +233,13 @@ fn main() {
     let rows: Vec<[Row; 4]> = (7..=12).map(|k| dimension(&f, &basis[..k])).collect();
     let names = ["encode", "decode", "prove", "one coin on a checked setting: the difference of the two times above"];
     for (i, name) in names.iter().enumerate() {
-        table(name, &rows.iter().map(|r| r[i]).collect::<Vec<_>>());
+        table(name, "k", &rows.iter().map(|r| r[i]).collect::<Vec<_>>());
     }
+    let corrections = correction::all(&f, &basis);
     stored(&f, &basis);
     streams(&f, &basis);
-    if let Some(path) = std::env::args().nth(1) {
-        std::fs::write(&path, plot::draw(&rows)).expect("the plot can be written");
+    for (path, charts) in std::env::args().skip(1).zip([&[encoding(&rows)][..], &corrections]) {
+        std::fs::write(&path, plot::draw(charts)).expect("the plot can be written");
         println!("plot: {path}");
     }
 }

@@ -42,7 +42,7 @@ impl Field {
         self.exp[(self.log[a as usize] + self.log[b as usize]) as usize]
     }
 
-    fn div(&self, a: u16, b: u16) -> u16 {
+    pub fn div(&self, a: u16, b: u16) -> u16 {
         if a == 0 {
             return 0;
         }
@@ -50,7 +50,7 @@ impl Field {
     }
 
     /// Adds c times each symbol of `from` to `to`.
-    fn add_scaled(&self, c: u16, from: &[u16], to: &mut [u16]) {
+    pub fn add_scaled(&self, c: u16, from: &[u16], to: &mut [u16]) {
         if c == 0 {
             return;
         }
@@ -129,7 +129,7 @@ fn transform(f: &Field, s: &Space, shift: [u16; 16], values: &mut [u16]) {
     transform(f, s, xor(shift, s.images[j]), high);
 }
 
-fn inverse(f: &Field, s: &Space, shift: [u16; 16], values: &mut [u16]) {
+pub fn inverse(f: &Field, s: &Space, shift: [u16; 16], values: &mut [u16]) {
     if values.len() == 1 {
         return;
     }
@@ -142,7 +142,7 @@ fn inverse(f: &Field, s: &Space, shift: [u16; 16], values: &mut [u16]) {
 }
 
 /// The coefficients of W_j at x^(2^i), for each j below the given number.
-fn vanishing(f: &Field, s: &Space, count: usize) -> Vec<Vec<u16>> {
+pub fn vanishing(f: &Field, s: &Space, count: usize) -> Vec<Vec<u16>> {
     let mut all = vec![vec![1u16]];
     for j in 0..count {
         let w = &all[j];
@@ -197,16 +197,19 @@ fn block_coefficients(f: &Field, s: &Space, word: &[u16]) -> Option<Vec<u16>> {
     Some(first)
 }
 
-pub fn decode(f: &Field, s: &Space, word: &[u16]) -> Option<Vec<u16>> {
-    let m = s.k - 3;
-    let w = vanishing(f, s, m);
-    let mut d = block_coefficients(f, s, word)?;
-    for j in 0..m {
+/// From coefficients over the novel basis to those of powers of x; w has the polynomials W_j.
+pub fn to_powers(f: &Field, s: &Space, w: &[Vec<u16>], d: &mut [u16]) {
+    for j in 0..d.len().trailing_zeros() as usize {
         for chunk in d.chunks_mut(2 << j) {
             chunk[1 << j..].iter_mut().for_each(|x| *x = f.div(*x, s.steps[j]));
             (1 << j..2 << j).for_each(|i| add_low_terms(f, &w[j], j, i, chunk));
         }
     }
+}
+
+pub fn decode(f: &Field, s: &Space, word: &[u16]) -> Option<Vec<u16>> {
+    let mut d = block_coefficients(f, s, word)?;
+    to_powers(f, s, &vanishing(f, s, s.k - 3), &mut d);
     Some(d)
 }
 

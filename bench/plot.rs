@@ -1,13 +1,27 @@
-//! Time against k as a small picture, with a logarithmic scale.
+//! Times as small pictures, with a logarithmic scale.
 use crate::Row;
 
 const WIDTH: f64 = 640.0;
 const HEIGHT: f64 = 400.0;
-const NAMES: [&str; 3] = ["encode", "decode", "prove"];
 const COLOURS: [&str; 3] = ["#1f5fa8", "#b3541e", "#2d7d46"];
 
-fn x(k: usize) -> f64 {
-    70.0 + (k - 7) as f64 * (WIDTH - 190.0) / 5.0
+/// One operation, at each value of the axis; its name stands at the end, moved down by the shift.
+pub struct Line {
+    pub name: &'static str,
+    pub rows: Vec<Row>,
+    pub shift: f64,
+}
+
+/// At most three lines over one axis; `axis` stands before each of its values.
+pub struct Chart {
+    pub title: String,
+    pub axis: &'static str,
+    pub lines: Vec<Line>,
+}
+
+/// The values of the axis have equal steps.
+fn x(i: usize, count: usize) -> f64 {
+    70.0 + i as f64 * (WIDTH - 190.0) / (count - 1) as f64
 }
 
 /// From 1 microsecond at the bottom to 100 milliseconds at the top.
@@ -15,33 +29,46 @@ fn y(us: f64) -> f64 {
     HEIGHT - 50.0 - us.max(1.0).log10() * (HEIGHT - 80.0) / 5.0
 }
 
-fn line(points: &[(usize, f64)], colour: &str, dash: &str) -> String {
-    let path: Vec<String> = points.iter().map(|(k, t)| format!("{:.1},{:.1}", x(*k), y(*t))).collect();
+fn line(top: f64, times: &[f64], colour: &str, dash: &str) -> String {
+    let path: Vec<String> = times.iter().enumerate().map(|(i, t)| format!("{:.1},{:.1}", x(i, times.len()), top + y(*t))).collect();
     format!("<polyline points=\"{}\" fill=\"none\" stroke=\"{colour}\" stroke-width=\"2\"{dash}/>\n", path.join(" "))
 }
 
-pub fn draw(rows: &[[Row; 4]]) -> String {
-    let mut s = format!(
-        "<svg xmlns=\"http://www.w3.org/2000/svg\" viewBox=\"0 0 {WIDTH} {HEIGHT}\" font-family=\"sans-serif\" font-size=\"12\">\n\
-         <rect width=\"{WIDTH}\" height=\"{HEIGHT}\" fill=\"#ffffff\"/>\n\
-         <text x=\"70\" y=\"18\">Processor time of one call against k at l = 16: solid proved, dashed with log tables</text>\n"
-    );
+fn axes(c: &Chart, top: f64) -> String {
+    let mut s = format!("<text x=\"70\" y=\"{}\">{}</text>\n", top + 18.0, c.title);
+    let rows = &c.lines[0].rows;
     for (us, label) in [(1.0, "1 µs"), (10.0, "10 µs"), (100.0, "100 µs"), (1e3, "1 ms"), (1e4, "10 ms"), (1e5, "100 ms")] {
-        let at = y(us);
-        s += &format!("<line x1=\"70\" y1=\"{at:.1}\" x2=\"{:.1}\" y2=\"{at:.1}\" stroke=\"#dddddd\"/>\n", x(12));
+        let at = top + y(us);
+        s += &format!("<line x1=\"70\" y1=\"{at:.1}\" x2=\"{:.1}\" y2=\"{at:.1}\" stroke=\"#dddddd\"/>\n", WIDTH - 120.0);
         s += &format!("<text x=\"62\" y=\"{:.1}\" text-anchor=\"end\">{label}</text>\n", at + 4.0);
     }
-    for r in rows {
-        s += &format!("<text x=\"{:.1}\" y=\"{:.1}\" text-anchor=\"middle\">k = {}</text>\n", x(r[0].k), HEIGHT - 25.0, r[0].k);
+    for (i, r) in rows.iter().enumerate() {
+        let (x, y) = (x(i, rows.len()), top + HEIGHT - 25.0);
+        s += &format!("<text x=\"{x:.1}\" y=\"{y:.1}\" text-anchor=\"middle\">{}{}</text>\n", c.axis, r.at);
     }
-    for (i, name) in NAMES.iter().enumerate() {
-        let proved: Vec<_> = rows.iter().map(|r| (r[i].k, r[i].proved)).collect();
-        let plain: Vec<_> = rows.iter().map(|r| (r[i].k, r[i].plain)).collect();
-        s += &line(&proved, COLOURS[i], "");
-        s += &line(&plain, COLOURS[i], " stroke-dasharray=\"5 4\"");
-        let above = if i == 0 { -8.0 } else { 8.0 };
-        let last = y(proved[proved.len() - 1].1) + 4.0 + if i < 2 { above } else { 0.0 };
-        s += &format!("<text x=\"{:.1}\" y=\"{last:.1}\" fill=\"{}\">{name}</text>\n", x(12) + 10.0, COLOURS[i]);
+    s
+}
+
+fn chart(c: &Chart, top: f64) -> String {
+    let mut s = axes(c, top);
+    for (l, colour) in c.lines.iter().zip(COLOURS) {
+        let proved: Vec<f64> = l.rows.iter().map(|r| r.proved).collect();
+        let plain: Vec<f64> = l.rows.iter().map(|r| r.plain).collect();
+        s += &line(top, &proved, colour, "");
+        s += &line(top, &plain, colour, " stroke-dasharray=\"5 4\"");
+        let last = top + y(proved[proved.len() - 1]) + 4.0 + l.shift;
+        s += &format!("<text x=\"{:.1}\" y=\"{last:.1}\" fill=\"{colour}\">{}</text>\n", WIDTH - 110.0, l.name);
     }
+    s
+}
+
+/// The charts, one below the other.
+pub fn draw(charts: &[Chart]) -> String {
+    let height = HEIGHT * charts.len() as f64;
+    let mut s = format!(
+        "<svg xmlns=\"http://www.w3.org/2000/svg\" viewBox=\"0 0 {WIDTH} {height}\" font-family=\"sans-serif\" font-size=\"12\">\n\
+         <rect width=\"{WIDTH}\" height=\"{height}\" fill=\"#ffffff\"/>\n"
+    );
+    charts.iter().enumerate().for_each(|(i, c)| s += &chart(c, i as f64 * HEIGHT));
     s + "</svg>\n"
 }
