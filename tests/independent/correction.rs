@@ -103,6 +103,45 @@ fn border(t: &mut Tally) {
     t.answers("correction at the border", wrong, &met, &[0, 13]);
 }
 
+/// A polynomial of so many coefficients, of which at most two are not 0.
+fn sparse(d: &mut Draw, s: &Setting, degrees: usize) -> Vec<u16> {
+    let mut p = vec![0; degrees];
+    (0..d.below(3)).for_each(|_| p[d.below(degrees as u64) as usize] = d.below(1 << s.l) as u16);
+    p
+}
+
+/// A codeword to which a polynomial is added on one stretch of at most so many positions, often a coset, and that codeword.
+fn stretch(d: &mut Draw, s: &Setting) -> (Vec<u16>, Option<Vec<u16>>) {
+    let n = 1usize << s.b.len();
+    let (p, q) = (sparse(d, s, n / 8), sparse(d, s, n / 8));
+    let (c, added) = (model::word_of(s.m, &s.b, &p), model::word_of(s.m, &s.b, &q));
+    let size = if d.below(2) == 0 { 1 << d.below(s.b.len() as u64 - 1) } else { radius(n) };
+    let from = size * d.below((n / size) as u64) as usize;
+    let mut w = c.clone();
+    (from..from + size).for_each(|i| w[i] ^= added[i]);
+    (w, Some(c))
+}
+
+/// A word of few powers of x, the highest too high for a near codeword.
+fn few_powers(d: &mut Draw, s: &Setting) -> Vec<u16> {
+    let n = 1usize << s.b.len();
+    let mut p = sparse(d, s, n - radius(n));
+    p[n / 8 + d.below((n - radius(n) - n / 8) as u64) as usize] = 1;
+    model::word_of(s.m, &s.b, &p)
+}
+
+/// Words with a pattern, for which many coefficients on the way are 0.
+fn patterns(t: &mut Tally) {
+    let mut d = Draw(0x428a2f98d728ae22);
+    let (mut wrong, mut met) = (0, Met::default());
+    for turn in 0..1200 {
+        let s = setting(&mut d, 3 + turn / 3 % 7);
+        let (w, near) = if turn % 3 < 2 { stretch(&mut d, &s) } else { (few_powers(&mut d, &s), None) };
+        wrong += u64::from(!finds(&mut d, &s, &w, near, &mut met));
+    }
+    t.answers("correction of patterns", wrong, &met, &[0, 13]);
+}
+
 /// Small fields: every polynomial is tried.
 fn trial(t: &mut Tally) {
     let mut d = Draw(0x1f83d9abfb41bd6b);
@@ -150,6 +189,19 @@ fn refusals(t: &mut Tally) {
     t.answers("correction", wrong, &met, &[0, 1, 2, 3, 4, 5, 6, 7, 9, 13]);
 }
 
+/// Lists that are empty, or twice or half as long as they must be.
+fn lengths(t: &mut Tally) {
+    let mut d = Draw(0x3c2d1f0e9a8b7c65);
+    let s = Setting { l: 3, m: 11, b: vec![1, 2, 4] };
+    let cases = [(0, 8, 128, 6), (8, 0, 128, 6), (8, 8, 0, 7), (0, 0, 0, 6), (16, 8, 256, 6), (8, 16, 256, 6), (4, 8, 128, 6), (8, 4, 128, 6), (4, 4, 64, 6), (8, 8, 32, 7)];
+    let mut right = |(w, out, scratch, number)| {
+        let (w, old, scratch) = (d.list(w, 65536), d.list(out, 65536), d.list(scratch, 65536));
+        same(&s, &w, number, vec![], &old, &scratch)
+    };
+    let wrong = cases.into_iter().filter(|c| !right(*c)).count();
+    t.group("correction of other lengths", wrong as u64, cases.len() as u64);
+}
+
 /// Corrects the word, and then asks for the corrected one again: it has 0 differences, and decoder and prover take it.
 fn again(t: &mut Tally) {
     let mut d = Draw(0xcbbb9d5dc1059ed8);
@@ -162,12 +214,12 @@ fn again(t: &mut Tally) {
         let count = d.below(radius(1 << k) as u64 + 1) as usize;
         let w = damaged(&mut d, &s, &c, count);
         let (mut out, mut scratch) = (d.list(1 << k, 65536), vec![0; 16 << k]);
-        calls::correct(s.m, &s.b, &w, &mut out, &mut scratch);
+        let first = calls::correct(s.m, &s.b, &w, &mut out, &mut scratch) == count as u64 && out == c;
         let (mut q, mut proof) = (vec![0; 1 << (k - 3)], vec![0; model::proof_length(k)]);
         let decoded = calls::decode(s.m, &s.b, &out, &mut q, &mut scratch);
         let proved = calls::prove(s.m, &s.b, &out, &mut proof, &mut scratch);
-        wrong += u64::from((decoded, proved) != (0, 0) || q != p);
-        wrong += u64::from(!finds(&mut d, &s, &out, Some(c), &mut met));
+        let second = finds(&mut d, &s, &out, Some(c), &mut met);
+        wrong += u64::from(!(first && (decoded, proved) == (0, 0) && q == p && second));
     }
     t.answers("corrected words again", wrong, &met, &[0]);
 }
@@ -194,8 +246,10 @@ fn largest(t: &mut Tally) {
 pub fn all(t: &mut Tally) {
     words(t);
     border(t);
+    patterns(t);
     trial(t);
     refusals(t);
+    lengths(t);
     again(t);
     largest(t);
 }
