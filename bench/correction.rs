@@ -66,7 +66,7 @@ fn undamaged(f: &Field, basis: &[u16]) {
 /// The tables of correction, and its charts: against damage at k = 12, and against k.
 pub fn all(f: &Field, basis: &[u16]) -> [Chart; 2] {
     let damage: Vec<Row> = DAMAGE.iter().map(|e| with_damage(f, basis, *e, *e)).collect();
-    table("correction at k = 12 against the number of differences", "off", &damage);
+    table("correction, with log tables by Gao's decoder, against the number of differences at k = 12", "off", &damage);
     let far: Vec<u16> = (0..1 << basis.len()).map(|i| noise(i * i + 7)).collect();
     let r = correction(f, basis, &far, None, 0);
     println!("no near codeword (13) at k = 12: proved {:.1}, log tables {:.1}, ratio {:.2}", r.proved, r.plain, r.proved / r.plain);
