@@ -36,7 +36,7 @@ use Rattle.codec.proofs.Spreading.{length-spread, spread-each, spread-l
 -- ---- the setting
 
 module _ {s : Setting} (u : Usable s) where
-  pub few-coefficients : s .space .k - 3 ≤ maxDim - 3
+  pub few-coefficients : s .space .k - 3 ≤ maxDim
   few-coefficients = omega (arith, u .high)
 
   pub stepped : Stepped (s .field) (s .space .k - 3) (s .steps)

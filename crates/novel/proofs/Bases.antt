@@ -142,7 +142,7 @@ module _ {K : Ops} (F : IsField K) where
         ∙ sym (evalX-by bs m d x)
 
 -- W_j(x) by the rows of the table
-pub value-row : {q : ℕ} (F : IsField (symbols q)) (bs steps t : List ℕ) (m : ℕ) → m ≤ maxDim - 3 → m ≤ length bs → ((j : ℕ) → j < m → getD steps j 0 ≡ step (symbols q) bs j)
+pub value-row : {q : ℕ} (F : IsField (symbols q)) (bs steps t : List ℕ) (m : ℕ) → m ≤ maxDim → m ≤ length bs → ((j : ℕ) → j < m → getD steps j 0 ≡ step (symbols q) bs j)
     → Sparse q steps m t → (j x : ℕ) → j < m → symbols q .Sym x → valueBy q t j x ≡ W (symbols q) bs j x
 value-row {q} F bs steps t m few hm e s j x h sx =
     linear-same F (rowOf t j) (coefficient (symbols q) (λ i. getD steps i 0) j) (suc j) x (λ i l. s .right j i h (omega arith))

@@ -37,7 +37,7 @@ module _ (q : ℕ) (irr : Irreducible q) (steps : List ℕ) where
       zeros : (v : ℕ) → v ⊕ (product q 0 0) ≡ v
       zeros v = ap (λ (t : ℕ). v ⊕ t) (F .zero-prod 0) ∙ F .sum-comm v 0 ∙ F .zero-sum v
 
-  pub cell-next : (p : ℕ) → p < maxDim * (maxDim - 2) → product q (s ((p + 1) / maxDim)) (cell (p + 1)) ⊕ (product q (cell p) (cell p)) ≡ cell (p + (maxDim + 1))
+  pub cell-next : (p : ℕ) → p + (maxDim + 1) < tableCells → product q (s ((p + 1) / maxDim)) (cell (p + 1)) ⊕ (product q (cell p) (cell p)) ≡ cell (p + (maxDim + 1))
   unfolding coefficient
   cell-next p h = by (ℕ-discrete (p % maxDim) (maxDim - 1))
     where
@@ -67,7 +67,7 @@ module _ (q : ℕ) (irr : Irreducible q) (steps : List ℕ) where
       (upto-zeros {k = maxDim} (omega arith) first-row
       (subst (λ (l : List ℕ). Upto tableCells 1 cell (set l 0 1)) (sym e) (upto-next 1 (omega arith) refl (upto-none tableCells cell))))
 
-  pub cells-next : {t : List ℕ} (p a b : ℕ) → p < maxDim * (maxDim - 2) → Upto tableCells (p + (maxDim + 1)) cell t → a ≡ product q (s ((p + 1) / maxDim)) (getD t (p + 1) 0) → b ≡ product q (getD t p 0) (getD t p 0)
+  pub cells-next : {t : List ℕ} (p a b : ℕ) → p + (maxDim + 1) < tableCells → Upto tableCells (p + (maxDim + 1)) cell t → a ≡ product q (s ((p + 1) / maxDim)) (getD t (p + 1) 0) → b ≡ product q (getD t p 0) (getD t p 0)
       → Upto tableCells (p + 1 + (maxDim + 1)) cell (set t (p + (maxDim + 1)) (a ⊕ b))
   cells-next {t} p a b h u ea eb =
       let next : p + (maxDim + 1) + 1 ≡ p + 1 + (maxDim + 1) = omega arith in
@@ -85,7 +85,7 @@ module _ (q : ℕ) (irr : Irreducible q) (steps : List ℕ) where
       upto-each (λ (x : ℕ). x < 2 ^ degree q) (F .sym-zero)
       (λ p h. coefficient-sym F s (p / maxDim) (p / maxDim) (p % maxDim) (λ j l. All-at (λ (x : ℕ). x < 2 ^ degree q) steps 0 sb (F .sym-zero) j) (omega arith)) u
 
-  pub cells-all : {t : List ℕ} (p count : ℕ) → count ≤ maxDim - 3 → Below (2 ^ degree q) steps → maxDim * count ≤ p + (maxDim + 1) → Upto tableCells (p + (maxDim + 1)) cell t → Sparse q steps count t
+  pub cells-all : {t : List ℕ} (p count : ℕ) → count ≤ maxDim + 1 → Below (2 ^ degree q) steps → maxDim * count ≤ p + (maxDim + 1) → Upto tableCells (p + (maxDim + 1)) cell t → Sparse q steps count t
   cells-all p count few sb h u =
       record {
         below = cells-below sb u;

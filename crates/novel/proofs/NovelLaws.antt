@@ -7,7 +7,7 @@ use native.Mathlib.Omega.{arith}
 use lib.ListN.{length, getD, take, drop}
 use lib.Pow.{pow-mono}
 use lib.Seq.{take-at, drop-at, length-take-le}
-use Rattle.space.specs.Sizes.{maxDim, maxCoefficients}
+use Rattle.space.specs.Sizes.{maxDim, maxWord}
 use Rattle.lists.specs.All.{All, Below, IsZero, All-take}
 use Rattle.lists.specs.Stretch.{Apart, stretch, length-stretch}
 use Rattle.field.specs.Binary.{_⊕_, degree, product, Irreducible}
@@ -52,8 +52,8 @@ module _ {f : Field} {m : ℕ} {steps : List ℕ} (s : Stepped f m steps) where
             ∙ evalBy-same F (λ j. valueBy q t j x) (λ j. W (symbols q) bs j x) m products (λ j h. value-row F bs steps t m (s .few) (b .enough) (b .right) p j x h sx);
       }
 
-  pub size-fits : 2 ^ m ≤ maxCoefficients
-  size-fits = pow-mono {i = m} {j = maxDim - 3} (s .few)
+  pub size-fits : 2 ^ m ≤ maxWord
+  size-fits = pow-mono {i = m} {j = maxDim} (s .few)
 
 -- ---- products with the scales
 
@@ -137,13 +137,14 @@ module _ (q : ℕ) (irr : Irreducible q) (m : ℕ) where
             ∙ sym (c .values bs b x sx);
       }
 
-  pub powers-of : (steps inverses d zs mid p new : List ℕ) → length d ≡ 2 ^ m → Below (2 ^ degree q) d → All IsZero zs → Scaled q inverses m (d ++ zs) mid
-      → Changed q steps m (stretch (2 ^ m) (2 ^ m) mid) p → Below (2 ^ degree q) new → stretch (2 ^ m) (2 ^ m) new ≡ p → PowersOf q steps inverses m d new
-  powers-of steps inverses d zs mid p new l bd z s c bn e =
+  pub powers-in : (steps inverses old mid p new : List ℕ) → length (take (2 ^ m) old) ≡ 2 ^ m → Below (2 ^ degree q) (take (2 ^ m) old) → All IsZero (stretch (2 ^ m) (2 ^ m) old)
+      → Scaled q inverses m old mid → Changed q steps m (stretch (2 ^ m) (2 ^ m) mid) p → Below (2 ^ degree q) new → stretch (2 ^ m) (2 ^ m) new ≡ p
+      → PowersOf q steps inverses m (take (2 ^ m) old) new
+  powers-in steps inverses old mid p new l bd z s c bn e =
       record {
         below = bn;
         values = λ bs b ri x sx.
             ap (λ (xs : List ℕ). eval (symbols q) xs x) e ∙ c .values bs b x sx
-            ∙ ap (evalBy (symbols q) (λ j. W (symbols q) bs j x) m) (s .right (zeros-behind d zs l z) ∙ ap (zipWith (product q) (scalesOf (symbols q) (λ j. getD inverses j 0) m)) (take-at d zs (2 ^ m) l))
-            ∙ from-normal (symbols-field q irr) bs (b .elements) (b .independent) m (b .enough) (λ j. getD inverses j 0) d x ri l bd;
+            ∙ ap (evalBy (symbols q) (λ j. W (symbols q) bs j x) m) (s .right z)
+            ∙ from-normal (symbols-field q irr) bs (b .elements) (b .independent) m (b .enough) (λ j. getD inverses j 0) (take (2 ^ m) old) x ri l bd;
       }

@@ -8,7 +8,7 @@ use native.Mathlib.Numerals.{add-one}
 use native.Mathlib.Omega.{arith}
 use lib.ListN.{length, getD, take, drop, set, replicate, length-append, length-set, length-replicate}
 use lib.Seq.{take-at, drop-at}
-use Rattle.space.specs.Sizes.{maxDim, maxCoefficients}
+use Rattle.space.specs.Sizes.{maxDim, maxWord}
 use Rattle.lists.specs.All.{All, Below, IsZero, All-take, All-drop, All-replicate}
 use Rattle.lists.specs.Stretch.{Apart, stretch, length-stretch}
 use Rattle.field.specs.Binary.{degree, Irreducible}
@@ -39,7 +39,7 @@ module _ (q : ℕ) (irr : Irreducible q) (steps : List ℕ) where
 
   -- the products of the first j steps, and zeros behind
   pub record Doubled (j : ℕ) (out : List ℕ) : Type 0 where
-    pub count : length out ≡ maxCoefficients
+    pub count : length out ≡ maxWord
     pub below : Below (2 ^ degree q) out
     pub right : take (2 ^ j) out ≡ scalesOf K s j
     pub rest : All IsZero (drop (2 ^ j) out)
@@ -52,18 +52,18 @@ module _ (q : ℕ) (irr : Irreducible q) (steps : List ℕ) where
   doubled-start out e =
       subst (λ (l : List ℕ). Doubled 0 (set l 0 1)) (sym e)
       (record {
-        count = length-set (replicate {A = ℕ} maxCoefficients 0) 0 1 ∙ length-replicate {A = ℕ} maxCoefficients 0;
-        below = (F .sym-one, All-replicate (λ (x : ℕ). x < 2 ^ degree q) (maxCoefficients - 1) 0 (F .sym-zero));
+        count = length-set (replicate {A = ℕ} maxWord 0) 0 1 ∙ length-replicate {A = ℕ} maxWord 0;
+        below = (F .sym-one, All-replicate (λ (x : ℕ). x < 2 ^ degree q) (maxWord - 1) 0 (F .sym-zero));
         right = refl;
-        rest = one-first (maxCoefficients - 1);
+        rest = one-first (maxWord - 1);
       })
 
-  module _ (j : ℕ) (out ts : List ℕ) (few : j < maxDim - 3) (z : All IsZero ts) (lt : length ts ≡ 2 ^ j) (d : Doubled j out) where
+  module _ (j : ℕ) (out ts : List ℕ) (few : j < maxDim) (z : All IsZero ts) (lt : length ts ≡ 2 ^ j) (d : Doubled j out) where
     abbrev n : ℕ
     n = length ts
 
-    fits : n + n ≤ maxCoefficients
-    fits = omega (arith, two-pow-succ j, lib.Pow.pow-mono {i = suc j} {j = maxDim - 3} (omega arith))
+    fits : n + n ≤ maxWord
+    fits = omega (arith, two-pow-succ j, lib.Pow.pow-mono {i = suc j} {j = maxDim} (omega arith))
 
     pub double-apart : Apart n 0 n (length out)
     double-apart = record { first = omega (arith, fits, d .count); second = omega (arith, fits, d .count); apart = inl (omega arith) }

@@ -3,7 +3,7 @@ use mathlib.Core.Path.{_≡_}
 use mathlib.Core.List.{List}
 use Prim.Native.Nat.{ℕ, zero, suc, _+_, _*_, _/_, _^_, _≤_, _<_, _-_}
 use lib.ListN.{length, getD, take, drop}
-use Rattle.space.specs.Sizes.{maxDim, maxCoefficients}
+use Rattle.space.specs.Sizes.{maxDim, maxWord}
 use Rattle.lists.specs.All.{All, Below, IsZero}
 use Rattle.lists.specs.Stretch.{stretch}
 use Rattle.field.specs.Binary.{degree, Irreducible}
@@ -40,14 +40,14 @@ valueBy q table j x = linear (symbols q) (rowOf table j) (suc j) x
 -- zeros for half of the coefficients of the longest word
 pub record Zeros (none : List ℕ) : Type 0 where
   pub zero : All IsZero none
-  pub many : maxCoefficients / 2 ≤ length none
+  pub many : maxWord / 2 ≤ length none
 
 -- what the change of basis for 2^m coefficients takes
 pub record Tabled (f : Field) (none table : List ℕ) (m : ℕ) : Type 0 where
   pub sized : Sized f
   pub irreducible : Irreducible (f .modulus)
   pub zeros : Zeros none
-  pub few : m ≤ maxDim - 3
+  pub few : m ≤ maxDim
   pub below : Below (2 ^ degree (f .modulus)) table
   pub lead : (j : ℕ) → j < m → rowOf table j j ≡ 1
 

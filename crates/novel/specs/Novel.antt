@@ -20,7 +20,7 @@ use Rattle.novel.specs.Scales.{scalesOf}
 pub record Stepped (f : Field) (m : ℕ) (steps : List ℕ) : Type 0 where
   pub sized : Sized f
   pub irreducible : Irreducible (f .modulus)
-  pub few : m ≤ maxDim - 3
+  pub few : m ≤ maxDim
   pub below : Below (2 ^ degree (f .modulus)) steps
 
 -- the steps are those of the basis, as far as 2^m coefficients need them

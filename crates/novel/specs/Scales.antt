@@ -3,7 +3,7 @@ use mathlib.Core.Path.{_≡_}
 use mathlib.Core.List.{List, [], _∷_, _++_}
 use Prim.Native.Nat.{ℕ, zero, suc, _^_}
 use lib.ListN.{length, getD, take, replicate}
-use Rattle.space.specs.Sizes.{maxCoefficients}
+use Rattle.space.specs.Sizes.{maxWord}
 use Rattle.lists.specs.All.{Below}
 use Rattle.field.specs.Binary.{degree}
 use Rattle.field.specs.Laws.{Ops}
@@ -16,9 +16,9 @@ scalesOf K s zero = 1 ∷ []
 scalesOf K s (suc j) = scalesOf K s j ++ scaleP K (s j) (scalesOf K s j)
 
 unfoldable pub zeroRoom : List ℕ
-zeroRoom = replicate maxCoefficients 0
+zeroRoom = replicate maxWord 0
 
 pub record Scales (q : ℕ) (steps : List ℕ) (m : ℕ) (r : List ℕ) : Type 0 where
-  pub count : length r ≡ maxCoefficients
+  pub count : length r ≡ maxWord
   pub below : Below (2 ^ degree q) r
   pub right : take (2 ^ m) r ≡ scalesOf (symbols q) (λ j. getD steps j 0) m

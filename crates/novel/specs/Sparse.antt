@@ -37,7 +37,7 @@ module _ (K : Ops) where
 
 -- a row of maxDim places for each subspace polynomial
 abbrev pub tableCells : ℕ
-tableCells = maxDim * maxDim
+tableCells = maxDim * (maxDim + 1)
 
 unfoldable pub zeroCells : List ℕ
 zeroCells = replicate tableCells 0

@@ -3,7 +3,7 @@
 // division by it takes j additions of a multiple.
 use field::Field;
 use space::MAX;
-use space::MAX_COEFFICIENTS;
+use space::MAX_WORD;
 ghost use mathlib.Core.Path.{_≡_};
 ghost use Prim.Native.Nat.{_+_, _/_, _^_, _≤_, _<_, _-_};
 ghost use lib.ListN.{length};
@@ -15,17 +15,17 @@ ghost use Rattle.novel.specs.Sparse.{Sparse, zeroCells};
 ghost use Rattle.novel.specs.Convert.{Tabled, Zeros, Folded, Expanded, Monomials};
 ghost use Rattle.novel.specs.Scales.{Scales, zeroRoom};
 
-// The table of the subspace polynomials: a row of MAX places for each.
-const TABLE: usize = MAX * MAX;
+// The table of the subspace polynomials W_0 to W_MAX: a row of MAX places for each.
+const TABLE: usize = MAX * (MAX + 1);
 
 // From a place of the table to the next place of the next row.
 const DIAGONAL: usize = MAX + 1;
 
-// Zeros for half of the coefficients of the longest word.
-pub fn none() -> [u16; MAX_COEFFICIENTS / 2]
+// Zeros for half of the longest word.
+pub fn none() -> [u16; MAX_WORD / 2]
     ensures { λ r. ⌜ Zeros r ⌝ }
 {
-    [0u16; MAX_COEFFICIENTS / 2]
+    [0u16; MAX_WORD / 2]
 }
 
 // 2^j.
@@ -45,7 +45,7 @@ fn cells() -> [u16; TABLE]
 // At MAX * j + i the coefficient of x^(2^i) in W_j, j below count: W_0 = x, and W_(j+1) is the
 // square of W_j and the product of W_j with the step of number j.
 pub fn table(f: Field, steps: &[u16; 16], count: usize) -> [u16; TABLE]
-    requires { ⌜ Sized f × Irreducible (f .modulus) × (count ≤ maxDim - 3) × Below (2 ^ degree (f .modulus)) (now steps) ⌝ }
+    requires { ⌜ Sized f × Irreducible (f .modulus) × (count ≤ maxDim + 1) × Below (2 ^ degree (f .modulus)) (now steps) ⌝ }
     ensures { λ r. ⌜ Sparse (f .modulus) (now (steps .entry)) count r ⌝ }
 {
     let mut t = cells();
@@ -131,15 +131,15 @@ pub fn from_monomials(f: Field, none: &[u16], table: &[u16; TABLE], m: usize, va
     from_monomials(f, none, table, j, &mut values[n..]);
 }
 
-fn room() -> [u16; MAX_COEFFICIENTS]
+fn room() -> [u16; MAX_WORD]
     ensures { λ r. ⌜ r ≡ zeroRoom ⌝ }
 {
-    [0u16; MAX_COEFFICIENTS]
+    [0u16; MAX_WORD]
 }
 
 // The product of steps[j] over the one bits j of i, at each i below 2^m.
-pub fn scales(f: Field, none: &[u16], steps: &[u16; 16], m: usize) -> [u16; MAX_COEFFICIENTS]
-    requires { ⌜ Sized f × Irreducible (f .modulus) × (m ≤ maxDim - 3) × Below (2 ^ degree (f .modulus)) (now steps) × Zeros (now none) ⌝ }
+pub fn scales(f: Field, none: &[u16], steps: &[u16; 16], m: usize) -> [u16; MAX_WORD]
+    requires { ⌜ Sized f × Irreducible (f .modulus) × (m ≤ maxDim) × Below (2 ^ degree (f .modulus)) (now steps) × Zeros (now none) ⌝ }
     ensures { λ r. ⌜ Scales (f .modulus) (now (steps .entry)) m r ⌝ }
 {
     let mut out = room();

@@ -14,9 +14,10 @@ use transform::slices::copy;
 ghost use mathlib.Core.Path.{_≡_};
 ghost use Prim.Native.Nat.{_+_, _^_, _≤_};
 ghost use mathlib.Core.List.{_++_};
-ghost use lib.ListN.{length, drop};
-ghost use Rattle.lists.specs.All.{Below};
+ghost use lib.ListN.{length, take, drop};
+ghost use Rattle.lists.specs.All.{All, Below, IsZero};
 ghost use Rattle.lists.specs.Calls.{zeros};
+ghost use Rattle.lists.specs.Stretch.{stretch};
 ghost use Rattle.field.specs.Binary.{degree};
 ghost use Rattle.novel.specs.Novel.{Stepped, Changed, Scaled, NovelOf, PowersOf};
 
@@ -72,6 +73,18 @@ pub fn novel_of(f: Field, steps: &[u16; 16], m: usize, coefficients: &[u16], wor
     scale(f, steps, m, work);
 }
 
+// The coefficients of powers of x, behind those over the novel basis, in place of zeros.
+pub fn powers_in(f: Field, steps: &[u16; 16], inverses: &[u16; 16], m: usize, work: &mut [u16])
+    requires { ⌜ Stepped f m (now steps) × Stepped f m (now inverses) ⌝ }
+    requires { ⌜ Below (2 ^ degree (f .modulus)) (now work) × (2 ^ m + 2 ^ m ≤ length (now work)) × All IsZero (stretch (2 ^ m) (2 ^ m) (now work)) ⌝ }
+    ensures { λ _. ⌜ PowersOf (f .modulus) (now (steps .entry)) (now (inverses .entry)) m (take (2 ^ m) (now (work .entry))) (now (work .exit)) ⌝ }
+{
+    let n = power(m);
+    let end = n + n;
+    scale(f, inverses, m, work);
+    to_powers(f, steps, m, &mut work[n..end]);
+}
+
 // The coefficients of powers of x, behind room of their length.
 pub fn powers_of(
     f: Field,
@@ -85,9 +98,6 @@ pub fn powers_of(
     requires { ⌜ Below (2 ^ degree (f .modulus)) (now d) × (length (now d) ≡ 2 ^ m) × (2 ^ m + 2 ^ m ≤ length (now work)) ⌝ }
     ensures { λ _. ⌜ PowersOf (f .modulus) (now (steps .entry)) (now (inverses .entry)) m (now (d .entry)) (now (work .exit)) ⌝ }
 {
-    let n = d.len();
-    let end = n + n;
     load(d, work);
-    scale(f, inverses, m, work);
-    to_powers(f, steps, m, &mut work[n..end]);
+    powers_in(f, steps, inverses, m, work);
 }

@@ -171,16 +171,16 @@ module _ {K : Ops} (F : IsField K) where
   eval-zeros [] x z = refl
   eval-zeros (c ∷ p) x z = zeros-step c x _ (z .0) (eval-zeros p x (z .1))
 
-  head-zero : (c x w : ℕ) → c ⊕ x ⊗ w ≡ 0 → w ≡ 0 → c ≡ 0
+  pub head-zero : (c x w : ℕ) → c ⊕ x ⊗ w ≡ 0 → w ≡ 0 → c ≡ 0
   head-zero c x w e h = combine F e (combine F (ap (λ (t : ℕ). x ⊗ t) h) (simp (ring, F)))
 
   -- Where the quotient is 0, so is all of p
-  quot-zeros : (p : List ℕ) (a : ℕ) → All IsZero (quot K p a) → All IsZero p
+  pub quot-zeros : (p : List ℕ) (a : ℕ) → All IsZero (quot K p a) → All IsZero p
   quot-zeros [] a z = tt
   quot-zeros (d ∷ p) a z = let t : All IsZero p = quot-zeros p a (z .1) in (head-zero d a _ (z .0) (eval-zeros p a t), t)
 
   -- A root of c ∷ p other than the root a is one of the quotient
-  quot-root : (c : ℕ) (p : List ℕ) (x a : ℕ) → All Sym p → Sym x → Sym a → x ≢ a → eval K (c ∷ p) x ≡ 0 → eval K (c ∷ p) a ≡ 0 → eval K (quot K p a) x ≡ 0
+  pub quot-root : (c : ℕ) (p : List ℕ) (x a : ℕ) → All Sym p → Sym x → Sym a → x ≢ a → eval K (c ∷ p) x ≡ 0 → eval K (c ∷ p) a ≡ 0 → eval K (quot K p a) x ≡ 0
   quot-root c p x a sp sx sa n ex ea =
       ⊗-zero F (x ⊕ a) (eval K (quot K p a) x) (F .sym-sum sx sa) (eval-sym (quot K p a) x (quot-sym p a sp sa) sx) (λ z. n (⊕-zero F x a z))
       (sym (factor c p x a) ∙ ap₂ _⊕_ ex ea ∙ F .sum-self 0)
@@ -206,7 +206,7 @@ module _ {K : Ops} (F : IsField K) where
   zeros-equal (c ∷ p) [] e z = absurd (suc-ne-zero _ e)
   zeros-equal (c ∷ p) (d ∷ q) e z = ap₂ _∷_ (⊕-zero F c d (z .0)) (zeros-equal p q (suc-inj e) (z .1))
 
-  sum-step : (u v : ℕ) → u ≡ v → u ⊕ v ≡ 0
+  pub sum-step : (u v : ℕ) → u ≡ v → u ⊕ v ≡ 0
   sum-step u v e = simp (e, sums, F)
 
   -- Two polynomials with n coefficients that agree at n distinct elements are equal

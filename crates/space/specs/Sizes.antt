@@ -24,3 +24,7 @@ maxColumn = 2 ^ (maxDim - maxDim / 2)
 -- the coefficients of the longest word
 abbrev pub maxCoefficients : ℕ
 maxCoefficients = 2 ^ (maxDim - 3)
+
+-- the symbols of the longest word
+abbrev pub maxWord : ℕ
+maxWord = 2 ^ maxDim

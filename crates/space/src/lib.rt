@@ -34,6 +34,9 @@ pub const MAX_COLUMN: usize = 1 << (MAX - MAX / 2);
 // The coefficients of the longest word.
 pub const MAX_COEFFICIENTS: usize = 1 << (MAX - 3);
 
+// The symbols of the longest word.
+pub const MAX_WORD: usize = 1 << MAX;
+
 // The dimension, and the normalised image of number j of b_(i+1) at 16 * i + j.
 pub struct Space {
     pub k: usize,

@@ -6,7 +6,7 @@ use native.Mathlib.Omega.{arith}
 use lib.ListN.{length, take}
 use lib.Pow.{pow-pos, pow-mono}
 use lib.Seq.{length-take-le}
-use Rattle.space.specs.Sizes.{maxDim, maxCoefficients}
+use Rattle.space.specs.Sizes.{maxDim, maxWord}
 use Rattle.lists.specs.All.{Below, All-at, All-take, IsZero, zeros-below}
 use Rattle.lists.specs.Stretch.{Apart}
 use Rattle.field.specs.Binary.{degree, Irreducible}
@@ -36,8 +36,8 @@ module _ (c : tie.At-loop Inv-loop μ-loop) where
   half-is : half ≡ 2 ^ j
   half-is = c .before .power .ensures
 
-  half-small : half ≤ maxCoefficients / 2
-  half-small = omega (arith, half-is, pow-mono {i = j} {j = 8} (omega (arith, start .pre .0 .few)))
+  half-small : half ≤ maxWord / 2
+  half-small = omega (arith, half-is, pow-mono {i = j} {j = maxDim - 1} (omega (arith, start .pre .0 .few)))
 
   abbrev zeros : List ℕ
   zeros = take (half / 2) (start .args .none .now)

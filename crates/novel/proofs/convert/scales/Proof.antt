@@ -48,7 +48,7 @@ module _ (c : tie.After-power Inv-loop μ-loop) where
   abbrev n : ℕ
   n = c .power .result
 
-  few : j < maxDim - 3
+  few : j < maxDim
   few = omega (arith, c .before .loop-test .taken, start .pre .2)
 
   n-is : n ≡ 2 ^ j
@@ -58,7 +58,7 @@ module _ (c : tie.After-power Inv-loop μ-loop) where
   zeros = take n (start .args .none .now)
 
   length-zeros : length zeros ≡ n
-  length-zeros = length-take-le n (start .args .none .now) (omega (arith, n-is, pow-mono {i = j} {j = 8} (omega (arith, few)), start .pre .4 .many))
+  length-zeros = length-take-le n (start .args .none .now) (omega (arith, n-is, pow-mono {i = j} {j = maxDim - 1} (omega (arith, few)), start .pre .4 .many))
 
   all-zero : All IsZero zeros
   all-zero = All-take IsZero n (start .args .none .now) (start .pre .4 .zero)

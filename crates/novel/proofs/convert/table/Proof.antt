@@ -15,7 +15,7 @@ use Rattle.novel.proofs.convert.table.Statement.{statement}
 use Rattle.novel.proofs.convert.table.Tie as tie
 
 abbrev Inv-loop : tie.InvT-loop
-Inv-loop f steps count t₀ p₀ t p = (p ≤ maxDim * (maxDim - 3)) × ((irr : Irreducible (f .modulus)) → Upto tableCells (p + (maxDim + 1)) (cell (f .modulus) irr steps) t)
+Inv-loop f steps count t₀ p₀ t p = (p ≤ tableCells) × ((irr : Irreducible (f .modulus)) → Upto tableCells (p + (maxDim + 1)) (cell (f .modulus) irr steps) t)
 
 abbrev μ-loop : tie.MeasureT-loop
 μ-loop f steps count t₀ p₀ t p = maxDim * count - p
