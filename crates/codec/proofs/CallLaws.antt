@@ -19,10 +19,10 @@ use Rattle.transform.proofs.BlockLaws.{eight}
 use Rattle.codec.specs.declared.Outcome.the-variants.{Done, Refused}
 use Rattle.codec.specs.Calls.{outcomeOf, Told, lengthChecks, Early, symbolChecks, wordChecks, CoefficientsOf}
 use Rattle.codec.specs.Checks.{earlyChecks}
-use Rattle.codec.specs.Lengths.{lengths-passed}
-use Rattle.codec.specs.Early as early
-use Rattle.codec.specs.Words.{Usable, Lengths, EncodedWith, DecodedWith}
-use Rattle.codec.proofs.WordLaws.{usable}
+use Rattle.lists.specs.Lengths.{lengths-passed}
+use Rattle.space.specs.Early as early
+use Rattle.codec.specs.Words.{Lengths, EncodedWith, DecodedWith}
+use Rattle.space.specs.Usable.{Usable, usable, own-ready}
 use Rattle.space.specs.Sizes.{maxDim}
 use Rattle.codec.specs.Scratch.{scratchFor}
 
@@ -57,10 +57,6 @@ module _ (m : ℕ) (bs : List ℕ) (a b s : ℕ) where
 
       pub early-lengths : (a ≡ 2 ^ (length bs - 3)) × (b ≡ 2 ^ length bs) × (scratchFor (length bs) ≤ s)
       early-lengths = lengths-passed a (2 ^ (length bs - 3)) b (2 ^ length bs) s (scratchFor (length bs)) (early.early-rest m bs cs c set r e z)
-
--- the setting by its own modulus
-pub own-ready : {m : ℕ} {bs : List ℕ} {s : Setting} → Ready m bs s → Ready (s .field .modulus) bs s
-own-ready {m} {bs} {s} r = subst (λ (i : ℕ). Ready i bs s) (sym (r .modulus)) r
 
 pub ready-usable : {m : ℕ} {bs : List ℕ} {s : Setting} → Ready m bs s → Usable s
 ready-usable r = usable (own-ready r)

@@ -1,4 +1,3 @@
 -- Lemmas of the proofs.
-pub mod Spreading
 pub mod WordLaws
 pub mod CallLaws

@@ -11,7 +11,7 @@ use Rattle.field.specs.Binary.{degree}
 use Rattle.field.specs.Symbols.{symbols}
 use Rattle.poly.specs.Codeword.{wordOf, Codeword}
 use Rattle.space.specs.Setting.{settingChecks}
-use Rattle.codec.specs.Early.{EarlyOf}
+use Rattle.space.specs.Early.{EarlyOf}
 use Rattle.codec.specs.declared.Outcome.{Outcome}
 use Rattle.codec.specs.declared.Outcome.the-variants.{Done, Refused}
 use Rattle.codec.specs.Scratch.{scratchFor}

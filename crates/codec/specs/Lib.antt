@@ -1,8 +1,6 @@
 -- Encoder and decoder: words from coefficients and back, and the two calls.
 pub mod Scratch
-pub mod Early
 pub mod Calls
-pub mod Lengths
 pub mod Checks
 pub mod Words
 pub mod RoundTrip

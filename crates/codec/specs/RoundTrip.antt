@@ -20,7 +20,7 @@ use Rattle.codec.specs.declared.Outcome.{Outcome}
 use Rattle.codec.specs.declared.Outcome.the-variants.{Done, Refused}
 use Rattle.codec.specs.Calls.{lengthChecks, symbolChecks, wordChecks, encodeChecks, decodeChecks, Encoded, Decoded}
 use Rattle.codec.specs.Checks.{earlyChecks, early-numbered}
-use Rattle.codec.specs.Lengths.{lengths-right, lengths-passed}
+use Rattle.lists.specs.Lengths.{lengths-right, lengths-passed}
 use Rattle.codec.specs.Scratch.{scratchFor}
 
 module _ (m : ℕ) (bs : List ℕ) where

@@ -13,7 +13,8 @@ ghost use Rattle.lists.specs.All.{Below};
 ghost use Rattle.lists.specs.Lanes.{lane};
 ghost use Rattle.field.specs.Binary.{degree};
 ghost use Rattle.space.specs.Ready.{Ready};
-ghost use Rattle.codec.specs.Words.{Usable, Lengths, InBlockZero, DecodedWith};
+ghost use Rattle.space.specs.Usable.{Usable};
+ghost use Rattle.codec.specs.Words.{Lengths, InBlockZero, DecodedWith};
 ghost use Rattle.codec.specs.Calls.{CoefficientsOf};
 ghost use Rattle.codec.specs.Scratch.{scratchFor};
 

@@ -19,7 +19,7 @@ use Rattle.proximity.specs.Dim.{dim, S}
 use Rattle.proximity.specs.Layout.{length-proof}
 use Rattle.codec.specs.Calls.{symbolChecks, wordChecks, encodeChecks, Encoded}
 use Rattle.codec.specs.Checks.{earlyChecks, early-numbered}
-use Rattle.codec.specs.Lengths.{lengths-right}
+use Rattle.lists.specs.Lengths.{lengths-right}
 use Rattle.codec.specs.RoundTrip.{word-passes}
 use Rattle.codec.specs.declared.Outcome.{Outcome}
 use Rattle.codec.specs.declared.Outcome.the-variants.{Done, Refused}

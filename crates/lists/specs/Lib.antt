@@ -6,6 +6,7 @@ pub mod Calls
 pub mod Decides
 pub mod Filled
 pub mod Lanes
+pub mod Lengths
 pub mod Members
 pub mod Overwrite
 pub mod Pick

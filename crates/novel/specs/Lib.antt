@@ -3,3 +3,4 @@ pub mod Sparse
 pub mod Convert
 pub mod Scales
 pub mod Novel
+pub mod Settings

@@ -21,8 +21,7 @@ use Rattle.transform.specs.Blocks.{Tested}
 use Rattle.proximity.specs.Dim.{dim, S}
 use Rattle.proximity.specs.Prover.{written-proof}
 use Rattle.codec.specs.Calls.{wordChecks}
-use Rattle.codec.proofs.CallLaws.{own-ready}
-use Rattle.codec.proofs.WordLaws.{ready-basis}
+use Rattle.space.specs.Usable.{ready-basis, own-ready}
 use Rattle.prover.specs.Prover.{Proving, Proved}
 use Rattle.prover.specs.Calls.{lengthChecks, ProofOf, InSetting, ProvenWith}
 use Rattle.codec.specs.Scratch.{scratchFor}

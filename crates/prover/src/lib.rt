@@ -11,7 +11,7 @@ use transform::blocks::is_codeword;
 ghost use mathlib.Core.Path.{_≡_};
 ghost use Prim.Native.Nat.{_≤_};
 ghost use Rattle.lists.specs.Answers.{Answers};
-ghost use Rattle.codec.specs.Early.{EarlyOf};
+ghost use Rattle.space.specs.Early.{EarlyOf};
 ghost use Rattle.prover.specs.Calls.{lengthChecks, Proven, InSetting, ProvenWith};
 ghost use Rattle.space.specs.Sizes.{maxDim};
 

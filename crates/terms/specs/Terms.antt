@@ -29,7 +29,7 @@ use Rattle.codec.specs.RoundTrip.{word-passes}
 use Rattle.codec.specs.declared.Outcome.{Outcome}
 use Rattle.codec.specs.declared.Outcome.the-variants.{Done}
 use Rattle.prover.specs.Calls.{lengthChecks, Proven}
-use Rattle.codec.specs.Lengths.{lengths-right}
+use Rattle.lists.specs.Lengths.{lengths-right}
 use Rattle.codec.specs.Scratch.{scratchFor}
 use Rattle.terms.specs.Agreement.{one-proving}
 use Rattle.terms.specs.Answer.{answered-one, same-answer}

@@ -4,7 +4,7 @@ use Prim.Native.Nat.{ℕ, _/_, _-_, _^_}
 use native.Mathlib.Omega.{arith}
 use lib.Pow.{pow-mono}
 use borrow.Author.Needs.{needs}
-use Rattle.codec.specs.Lengths.{six-first, six-second, seven, lengths-right}
+use Rattle.lists.specs.Lengths.{six-first, six-second, seven, lengths-right}
 use Rattle.codec.proofs.CallLaws.{eighth-is}
 use Rattle.codec.proofs.length_refusal.Statement.{statement}
 use Rattle.codec.proofs.length_refusal.Tie as tie

@@ -5,7 +5,7 @@ use native.Mathlib.Omega.{arith}
 use lib.Pow.{pow-mono}
 use Rattle.proximity.specs.Dim.{S}
 use Rattle.rows.proofs.Passes.{power}
-use Rattle.codec.specs.Lengths.{six-first, six-second, seven, lengths-right}
+use Rattle.lists.specs.Lengths.{six-first, six-second, seven, lengths-right}
 use borrow.Author.Needs.{needs}
 use Rattle.prover.proofs.length_refusal.Statement.{statement}
 use Rattle.prover.proofs.length_refusal.Tie as tie

@@ -10,8 +10,8 @@ use Rattle.space.specs.Ready.{Ready}
 use Rattle.space.specs.Setting.{settingChecks}
 use Rattle.proximity.specs.Dim.{S}
 use Rattle.codec.specs.Calls.{wordChecks}
-use Rattle.codec.specs.Lengths.{lengths-passed}
-use Rattle.codec.specs.Early.{dimensions, early-passes, early-ready, early-rest, early-refused}
+use Rattle.lists.specs.Lengths.{lengths-passed}
+use Rattle.space.specs.Early.{dimensions, early-passes, early-ready, early-rest, early-refused}
 use Rattle.codec.proofs.CallLaws.{told-of}
 use Rattle.prover.specs.Calls.{lengthChecks, Proven}
 use Rattle.prover.proofs.CallLaws.{early-within, early-numbered, in-setting, prove-done, prove-refused}

@@ -12,7 +12,7 @@ use Rattle.field.specs.Binary.{degree}
 use Rattle.field.specs.Symbols.{symbols}
 use Rattle.poly.specs.Codeword.{Codeword}
 use Rattle.space.specs.Ready.{Ready}
-use Rattle.codec.proofs.WordLaws.{usable}
+use Rattle.space.specs.Usable.{usable}
 use Rattle.prover.proofs.CallLaws.{code-of, no-code, proving, proof-of}
 use borrow.Author.Needs.{needs}
 use Rattle.prover.proofs.prove_with.Statement.{statement}

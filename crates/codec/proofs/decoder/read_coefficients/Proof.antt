@@ -12,7 +12,8 @@ use Rattle.lists.specs.Stretch.{stretch, length-stretch}
 use Rattle.field.specs.Binary.{degree}
 use Rattle.transform.proofs.BlockLaws.{eight}
 use Rattle.novel.proofs.Loading.{part-stretch}
-use Rattle.codec.proofs.WordLaws.{stepped, stepped-inverses, read}
+use Rattle.novel.specs.Settings.{stepped, stepped-inverses}
+use Rattle.codec.proofs.WordLaws.{read}
 use Rattle.codec.proofs.decoder.read_coefficients.Statement.{statement}
 use Rattle.codec.proofs.decoder.read_coefficients.Tie as tie
 
@@ -91,7 +92,7 @@ powers-of-requires : tie.Need-powers-of-requires
 powers-of-requires c κs =
     let at = c .before .before .before .before .before .before .before in
     let begin = start at in (
-      (stepped (begin .pre .0), stepped-inverses (begin .pre .0)),
+      (stepped (begin .pre .0) (k begin - 3) (omega arith), stepped-inverses (begin .pre .0) (k begin - 3) (omega arith)),
       (
         subst (Below (2 ^ degree (q at))) (sym (d-is at)) (begin .pre .3),
         length-d at ∙ size-is begin,

@@ -7,7 +7,7 @@ use lib.ListN.{length, getD}
 use Rattle.lists.specs.All.{All, All-at}
 use Rattle.lists.specs.Lanes.{lane, lane-is}
 use Rattle.lists.specs.Tables.{length-tab, getD-tab, All-tab}
-use Rattle.codec.specs.Words.{spreadOf}
+use Rattle.evaluation.specs.Words.{spreadOf}
 
 module _ (n : ℕ) (d : List ℕ) where
   pub length-spread : length (spreadOf n d) ≡ n

@@ -1,4 +1,4 @@
--- `codec::encoder::write_word` meets its contract. Assumes nothing.
+-- `evaluation::write_word` meets its contract. Assumes nothing.
 use mathlib.Core.Path.{_≡_, sym, ap, subst, _∙_}
 use mathlib.Core.List.{List, _++_}
 use Prim.Native.Nat.{ℕ, _+_, _-_, _*_, _^_, _≤_, _<_}
@@ -11,11 +11,12 @@ use Rattle.lists.specs.Stretch.{stretch, length-stretch}
 use Rattle.field.specs.Binary.{degree}
 use Rattle.transform.specs.Slices.{Transposed}
 use Rattle.transform.proofs.BlockLaws.{eight}
-use Rattle.codec.specs.Words.{LanesOf}
+use Rattle.evaluation.specs.Words.{LanesOf}
 use Rattle.novel.proofs.Loading.{part-stretch}
-use Rattle.codec.proofs.WordLaws.{stepped, written}
-use Rattle.codec.proofs.encoder.write_word.Statement.{statement}
-use Rattle.codec.proofs.encoder.write_word.Tie as tie
+use Rattle.novel.specs.Settings.{stepped}
+use Rattle.evaluation.proofs.WordLaws.{written}
+use Rattle.evaluation.proofs.write_word.Statement.{statement}
+use Rattle.evaluation.proofs.write_word.Tie as tie
 
 -- ---- the lengths
 module _ (c : tie.Start) where
@@ -89,7 +90,7 @@ sub-novel-of c = search needs
 novel-of-requires : tie.Need-novel-of-requires
 novel-of-requires c κs =
     let start = c .before .before .before .before .before .before .before .before in
-    (stepped (start .pre .0), start .pre .2, size-is start, omega (arith, n-is start, size-is start))
+    (stepped (start .pre .0) (k start - 3) (omega arith), start .pre .2, size-is start, omega (arith, n-is start, size-is start))
 
 mul-fill-lanes : tie.Need-mul-fill-lanes
 mul-fill-lanes c = search needs

@@ -1,4 +1,4 @@
--- `codec::encoder::fill_lanes` meets its contract. Assumes nothing.
+-- `evaluation::fill_lanes` meets its contract. Assumes nothing.
 use mathlib.Core.Path.{sym, ap, subst, _∙_}
 use mathlib.Core.List.{List}
 use Prim.Native.Nat.{ℕ, _*_}
@@ -6,9 +6,9 @@ use lib.ListN.{length}
 use borrow.Author.Needs.{needs}
 use Rattle.transform.specs.Blocks.{InBlocks, BlocksEvaluated}
 use Rattle.transform.proofs.BlockLaws.{eight}
-use Rattle.codec.proofs.WordLaws.{filling-blocks, lanes-filled}
-use Rattle.codec.proofs.encoder.fill_lanes.Statement.{statement}
-use Rattle.codec.proofs.encoder.fill_lanes.Tie as tie
+use Rattle.evaluation.proofs.WordLaws.{filling-blocks, lanes-filled}
+use Rattle.evaluation.proofs.fill_lanes.Statement.{statement}
+use Rattle.evaluation.proofs.fill_lanes.Tie as tie
 
 spread-requires : tie.Need-spread-requires
 spread-requires c κs =

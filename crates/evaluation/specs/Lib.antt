@@ -1,0 +1,2 @@
+-- From coefficients to the word.
+pub mod Words
