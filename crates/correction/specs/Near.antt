@@ -1,0 +1,92 @@
+-- The codeword within the radius of a word: there is at most one.
+use mathlib.Core.Path.{_≡_, sym, ap, _∙_, subst}
+use mathlib.Core.List.{List}
+use Prim.Native.Nat.{ℕ, _+_, _*_, _-_, _/_, _^_, _≤_}
+use native.Mathlib.Omega.{arith}
+use lib.ListN.{length}
+use lib.Pow.{pow-add}
+use Rattle.lists.specs.All.{All}
+use Rattle.lists.specs.Tables.{length-tab, getD-tab}
+use Rattle.field.specs.Laws.{Ops, IsField}
+use Rattle.poly.specs.Poly.{eval, addP, length-addP, eval-addP, addP-sym, zeros-equal, sum-step}
+use Rattle.poly.specs.Span.{elem, elem-sym}
+use Rattle.poly.specs.Codeword.{Basis, wordOf, Codeword, basis-distinct}
+use Rattle.correction.specs.Coefficients.{coeff}
+use Rattle.correction.specs.Differences.{differences, differing, differing-le, differing-triangle, differing-sym, differences-differing, root-count}
+
+-- the number of positions that are put right in a word of n symbols
+abbrev pub radius : ℕ → ℕ
+radius n = 7 * n / 16
+
+module _ (K : Ops) (k : ℕ) (b w : List ℕ) where
+  -- c is a codeword that differs from w in no more positions
+  pub record Near (c : List ℕ) : Type 0 where
+    pub codeword : Codeword K k b c
+    pub close : differences w c ≤ radius (2 ^ k)
+
+  -- p is its polynomial
+  pub record NearPoly (p : List ℕ) : Type 0 where
+    pub count : length p ≡ 2 ^ (k - 3)
+    pub elements : All (K .Sym) p
+    pub close : differing (2 ^ k) (coeff w) (λ i. eval K p (elem K b i)) ≤ radius (2 ^ k)
+
+pub eight : (k : ℕ) → 3 ≤ k → 2 ^ k ≡ 8 * 2 ^ (k - 3)
+eight k h = ap (λ (t : ℕ). 2 ^ t) {x = k} {y = 3 + (k - 3)} (omega arith) ∙ pow-add 2 3 (k - 3)
+
+module _ (K : Ops) (k : ℕ) (b w : List ℕ) (lw : length w ≡ 2 ^ k) where
+  -- the differences from the word of a polynomial
+  pub differences-word : (p : List ℕ) → differences w (wordOf K k b p) ≡ differing (2 ^ k) (coeff w) (λ i. eval K p (elem K b i))
+  differences-word p =
+      differences-differing (2 ^ k) w (wordOf K k b p) lw (length-tab (2 ^ k) (λ i. eval K p (elem K b i)))
+      ∙ omega (
+        arith,
+        differing-le (2 ^ k) (coeff w) (coeff (wordOf K k b p)) (coeff w) (λ i. eval K p (elem K b i)) (λ i h e. e ∙ sym (getD-tab (2 ^ k) (λ i. eval K p (elem K b i)) i 0 h)),
+        differing-le (2 ^ k) (coeff w) (λ i. eval K p (elem K b i)) (coeff w) (coeff (wordOf K k b p)) (λ i h e. e ∙ getD-tab (2 ^ k) (λ i. eval K p (elem K b i)) i 0 h),
+      )
+
+  pub near-poly : (p : List ℕ) → length p ≡ 2 ^ (k - 3) → All (K .Sym) p → differences w (wordOf K k b p) ≤ radius (2 ^ k) → NearPoly K k b w p
+  near-poly p lp sp h = record { count = lp; elements = sp; close = omega (arith, differences-word p) }
+
+  pub poly-near : (p : List ℕ) → NearPoly K k b w p → Near K k b w (wordOf K k b p)
+  poly-near p n = record { codeword = (p, n .count, n .elements, mathlib.Core.Path.refl); close = omega (arith, differences-word p, n .close) }
+
+module _ {K : Ops} (F : IsField K) (k : ℕ) (hk : 3 ≤ k) (b : List ℕ) (B : Basis K k b) (w : List ℕ) where
+  open Ops K using (Sym)
+
+  -- twice the radius and the degree are no more than the length
+  pub radius-fits : radius (2 ^ k) + radius (2 ^ k) + 2 ^ (k - 3) ≤ 2 ^ k
+  radius-fits = omega (arith, eight k hk)
+
+  unique-poly : (p q : List ℕ) → NearPoly K k b w p → NearPoly K k b w q → p ≡ q
+  unique-poly p q a c =
+      zeros-equal F p q (a .count ∙ sym (c .count))
+      (root-count F (2 ^ k) (addP K p q) (elem K b) (addP-sym F p q (a .elements) (c .elements)) (λ i h. elem-sym F b i (B .elements)) (basis-distinct F k b B)
+      (omega (
+        arith,
+        length-addP K p q,
+        a .count,
+        c .count,
+        a .close,
+        c .close,
+        radius-fits,
+        differing-le (2 ^ k) (λ i. eval K (addP K p q) (elem K b i)) (λ i. 0) u v (λ i l e. eval-addP F p q (elem K b i) ∙ sum-step F _ _ e),
+        differing-triangle (2 ^ k) u (coeff w) v,
+        differing-sym (2 ^ k) u (coeff w),
+      )))
+    where
+      u : ℕ → ℕ
+      u i = eval K p (elem K b i)
+
+      v : ℕ → ℕ
+      v i = eval K q (elem K b i)
+
+  -- no word has two codewords within the radius
+  pub one-near : length w ≡ 2 ^ k → (c d : List ℕ) → Near K k b w c → Near K k b w d → c ≡ d
+  one-near lw c d x y = by (x .codeword) (y .codeword)
+    where
+      by : Codeword K k b c → Codeword K k b d → c ≡ d
+      by (p, lp, sp, ep) (q, lq, sq, eq) =
+          ep ∙ ap (wordOf K k b)
+          (unique-poly p q (near-poly K k b w lw p lp sp (subst (λ (l : List ℕ). differences w l ≤ radius (2 ^ k)) ep (x .close)))
+          (near-poly K k b w lw q lq sq (subst (λ (l : List ℕ). differences w l ≤ radius (2 ^ k)) eq (y .close))))
+          ∙ sym eq
