@@ -1,4 +1,5 @@
 -- The printed sentences, each a theorem about what the calls' contracts say.
+pub mod Numbers
 pub mod Refusals
 pub mod Answer
 pub mod OneAnswer

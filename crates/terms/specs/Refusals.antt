@@ -7,7 +7,7 @@ use mathlib.Core.List.{List}
 use Prim.Native.Nat.{ℕ, _≤_, _<_}
 use native.Mathlib.Omega.{arith}
 use lib.ListN.{length}
-use Rattle.lists.specs.Answers.{Checks, Answers, Passes, answers-one, not-refused}
+use Rattle.lists.specs.Answers.{Checks, Answers, Passes, Refuses, answers-one, not-refused}
 use Rattle.lists.specs.Calls.{zeros, RefusedWith, Within, answer-within}
 use Rattle.field.specs.Calls as field
 use Rattle.field.specs.declared.Value.the-variants as value
@@ -33,37 +33,45 @@ use Rattle.codec.specs.declared.Outcome.the-variants.{Done, Refused}
 use Rattle.prover.specs.Calls.{proveChecks, Proven}
 use Rattle.delivery.specs.Message as making
 use Rattle.delivery.specs.declared.Made.the-variants as made
+use Rattle.terms.specs.Numbers.{numbers, Listed, listed}
 
 -- The checks of a call give at most one number.
 pub one-number : (cs : Checks) {r s : ℕ} → Answers cs r → Answers cs s → r ≡ s
 one-number = answers-one
 
+-- n is one of the listed numbers, and none above `most`
+abbrev pub OneOf : ℕ → ℕ → Type 0
+OneOf most n = Listed n × (n ≤ most)
+
+one-of : (most : ℕ) (cs : Checks) {n : ℕ} → most ≤ length numbers → Within most cs → Refuses cs n → OneOf most n
+one-of most cs {n} h w (l, a) = let top : n ≤ most = answer-within cs w a in (listed n l (omega arith), top)
+
 -- ---- encoder, decoder and prover
 
 -- the number n and what the call leaves: up to check 7 the scratch is as it came, past it all zeros
-pub record LeftBy (n : ℕ) (old new scratch left : List ℕ) : Type 0 where
-  pub number : (0 < n) × (n ≤ 10)
+pub record LeftBy (most n : ℕ) (old new scratch left : List ℕ) : Type 0 where
+  pub number : OneOf most n
   pub output : new ≡ old
   pub early : n ≤ 7 → left ≡ scratch
   pub late : 7 < n → left ≡ zeros (length scratch)
 
 module _ (cs : Checks) (old new scratch left : List ℕ) where
-  left-by : Within 10 cs → (n : ℕ) → RefusedWith cs n old new scratch left → LeftBy n old new scratch left
-  left-by w n r = record { number = (r .refuses .0, answer-within cs w (r .refuses .1)); output = r .untouched; early = r .early; late = r .late }
+  left-by : (most : ℕ) → most ≤ length numbers → Within most cs → (n : ℕ) → RefusedWith cs n old new scratch left → LeftBy most n old new scratch left
+  left-by most h w n r = record { number = one-of most cs h w (r .refuses); output = r .untouched; early = r .early; late = r .late }
 
   done : (Right : List ℕ → Type 0) → Passes cs → (u : Outcome) → Told cs Right old new scratch left u → u ≡ Done
   done Right p Done t = refl
   done Right p (Refused n) t = absurd (not-refused cs p (t .refuses))
 
 module _ (m : ℕ) (bs p old new scratch left : List ℕ) where
-  pub refused-encoding : (n : ℕ) → Encoded m bs p old new scratch left (Refused n) → LeftBy n old new scratch left
-  refused-encoding = left-by (encodeChecks m bs p (length old) (length scratch)) old new scratch left (search (arith) depth 30)
+  pub refused-encoding : (n : ℕ) → Encoded m bs p old new scratch left (Refused n) → LeftBy 9 n old new scratch left
+  refused-encoding = left-by (encodeChecks m bs p (length old) (length scratch)) old new scratch left 9 (omega arith) (search (arith) depth 30)
 
-  pub refused-decoding : (n : ℕ) → Decoded m bs p old new scratch left (Refused n) → LeftBy n old new scratch left
-  refused-decoding = left-by (decodeChecks m bs p (length old) (length scratch)) old new scratch left (search (arith) depth 30)
+  pub refused-decoding : (n : ℕ) → Decoded m bs p old new scratch left (Refused n) → LeftBy 10 n old new scratch left
+  refused-decoding = left-by (decodeChecks m bs p (length old) (length scratch)) old new scratch left 10 (omega arith) (search (arith) depth 30)
 
-  pub refused-proving : (n : ℕ) → Proven m bs p old new scratch left (Refused n) → LeftBy n old new scratch left
-  refused-proving = left-by (proveChecks m bs p (length old) (length scratch)) old new scratch left (search (arith) depth 30)
+  pub refused-proving : (n : ℕ) → Proven m bs p old new scratch left (Refused n) → LeftBy 10 n old new scratch left
+  refused-proving = left-by (proveChecks m bs p (length old) (length scratch)) old new scratch left 10 (omega arith) (search (arith) depth 30)
 
   -- a call that no check refuses is done
   pub encoding-done : Passes (encodeChecks m bs p (length old) (length scratch)) → (u : Outcome) → Encoded m bs p old new scratch left u → u ≡ Done
@@ -78,52 +86,52 @@ module _ (m : ℕ) (bs p old new scratch left : List ℕ) where
 -- ---- the other calls
 
 -- sum and product, of which v is the value
-pub refused-value : (m a b v n : ℕ) → field.Told (field.fieldChecks m a b) v (value.Refused n) → (0 < n) × (n ≤ 9)
-refused-value m a b v n (l, r) = (l, answer-within (field.fieldChecks m a b) (search (arith) depth 30) r)
+pub refused-value : (m a b v n : ℕ) → field.Told (field.fieldChecks m a b) v (value.Refused n) → OneOf 9 n
+refused-value m a b v n = one-of 9 (field.fieldChecks m a b) (omega arith) (search (arith) depth 30)
 
 -- the check of a setting, which hands back no setting with a number
-pub refused-setting : (m : ℕ) (bs : List ℕ) (c : Checked) → Settled m bs c → 0 < c .refusal → (c .refusal ≤ 5) × (c .setting ≡ noSetting)
+pub refused-setting : (m : ℕ) (bs : List ℕ) (c : Checked) → Settled m bs c → 0 < c .refusal → OneOf 5 (c .refusal) × (c .setting ≡ noSetting)
 refused-setting m bs c (inl (p, z, e)) h = absurd (omega arith)
-refused-setting m bs c (inr ((l, a), e)) h = (answer-within (settingChecks m bs) (search (arith) depth 30) a, e)
+refused-setting m bs c (inr (a, e)) h = (one-of 5 (settingChecks m bs) (omega arith) (search (arith) depth 30) a, e)
 
 -- the readers of stored files, which hand back the number alone
 module _ (f : List ℕ) (r : Reading) where
-  refused-by : (cs : Checks) → Within 12 cs → reader.Told cs f r → 0 < r .refusal → (r .refusal ≤ 12) × (r ≡ noRead (r .refusal))
+  refused-by : (cs : Checks) → Within 12 cs → reader.Told cs f r → 0 < r .refusal → OneOf 12 (r .refusal) × (r ≡ noRead (r .refusal))
   unfolding readOf
   refused-by cs w (inl (p, e)) h = let z : r .refusal ≡ 0 = ap (λ (x : Reading). x .refusal) e in absurd (omega arith)
-  refused-by cs w (inr ((l, a), e)) h = (answer-within cs w a, e)
+  refused-by cs w (inr (a, e)) h = (one-of 12 cs (omega arith) w a, e)
 
-  pub refused-reading : reader.Told (fileChecks f) f r → 0 < r .refusal → (r .refusal ≤ 12) × (r ≡ noRead (r .refusal))
+  pub refused-reading : reader.Told (fileChecks f) f r → 0 < r .refusal → OneOf 12 (r .refusal) × (r ≡ noRead (r .refusal))
   refused-reading = refused-by (fileChecks f) (search (arith) depth 40)
 
-  pub refused-prefix : reader.Told (prefixChecks f) f r → 0 < r .refusal → (r .refusal ≤ 12) × (r ≡ noRead (r .refusal))
+  pub refused-prefix : reader.Told (prefixChecks f) f r → 0 < r .refusal → OneOf 12 (r .refusal) × (r ≡ noRead (r .refusal))
   refused-prefix = refused-by (prefixChecks f) (search (arith) depth 40)
 
 -- the coin counter, which hands back the number alone
-pub refused-counting : (f : List ℕ) (c : Counts) → counter.Told f c → 0 < c .refusal → (c .refusal ≤ 12) × (c ≡ noCounts (c .refusal))
+pub refused-counting : (f : List ℕ) (c : Counts) → counter.Told f c → 0 < c .refusal → OneOf 12 (c .refusal) × (c ≡ noCounts (c .refusal))
 refused-counting f c (inl (p, z, t)) h = absurd (omega arith)
-refused-counting f c (inr ((l, a), e)) h = (answer-within (countChecks f) (search (arith) depth 40) a, e)
+refused-counting f c (inr (a, e)) h = (one-of 12 (countChecks f) (omega arith) (search (arith) depth 40) a, e)
 
 -- the report's answer on a file, which is the number alone
-pub refused-entry : (s : List ℕ) (e : Entry) → report.Told s e → 0 < e .refusal → (e .refusal ≤ 12) × (e ≡ noEntry (e .refusal))
+pub refused-entry : (s : List ℕ) (e : Entry) → report.Told s e → 0 < e .refusal → OneOf 12 (e .refusal) × (e ≡ noEntry (e .refusal))
 refused-entry s e (inl (p, z, t, g)) h = absurd (omega arith)
-refused-entry s e (inr ((l, a), g)) h = (answer-within (entryChecks s) (search (arith) depth 40) a, g)
+refused-entry s e (inr (a, g)) h = (one-of 12 (entryChecks s) (omega arith) (search (arith) depth 40) a, g)
 
 -- the checker, which writes nothing
-pub refused-check : (m : ℕ) (bs w π : List ℕ) (coin n : ℕ) → checker.Told m bs w π coin (verdict.Refused n) → (0 < n) × (n ≤ 9)
-refused-check m bs w π coin n (l, a) = (l, answer-within (checker.checkerChecks m bs w π coin) (search (arith) depth 30) a)
+pub refused-check : (m : ℕ) (bs w π : List ℕ) (coin n : ℕ) → checker.Told m bs w π coin (verdict.Refused n) → OneOf 9 n
+refused-check m bs w π coin n = one-of 9 (checker.checkerChecks m bs w π coin) (omega arith) (search (arith) depth 30)
 
 -- the checker over a stored file, and the number that a file gets by itself
-pub refused-file-check : (f : List ℕ) (coin n : ℕ) → AnsweredFile f coin (verdict.Refused n) → (0 < n) × (n ≤ 12)
-refused-file-check f coin n (l, a) = (l, answer-within (coinChecks f coin) (search (arith) depth 40) a)
+pub refused-file-check : (f : List ℕ) (coin n : ℕ) → AnsweredFile f coin (verdict.Refused n) → OneOf 12 n
+refused-file-check f coin n = one-of 12 (coinChecks f coin) (omega arith) (search (arith) depth 40)
 
-pub file-number : (f : List ℕ) (r : ℕ) → Answers (fileChecks f) r → r ≤ 12
-file-number f r = answer-within (fileChecks f) (search (arith) depth 40)
+pub file-number : (f : List ℕ) (r : ℕ) → Refuses (fileChecks f) r → OneOf 12 r
+file-number f r = one-of 12 (fileChecks f) (omega arith) (search (arith) depth 40)
 
 -- the writer of stored files
-pub refused-writing : (m : ℕ) (bs w π old new : List ℕ) (n : ℕ) → Wrote m bs w π old new (written.Refused n) → (0 < n) × (n ≤ 9) × (new ≡ old)
-refused-writing m bs w π old new n ((l, a), e) = (l, answer-within (writerChecks m bs w π (length old)) (search (arith) depth 30) a, e)
+pub refused-writing : (m : ℕ) (bs w π old new : List ℕ) (n : ℕ) → Wrote m bs w π old new (written.Refused n) → OneOf 9 n × (new ≡ old)
+refused-writing m bs w π old new n (a, e) = (one-of 9 (writerChecks m bs w π (length old)) (omega arith) (search (arith) depth 30) a, e)
 
 -- the maker of deliveries
-pub refused-making : (t old new : List ℕ) (n : ℕ) → making.Told t old new (made.Refused n) → (0 < n) × (n ≤ 12) × (new ≡ old)
-refused-making t old new n ((l, a), e) = (l, answer-within (making.messageChecks t (length old)) (search (arith) depth 40) a, e)
+pub refused-making : (t old new : List ℕ) (n : ℕ) → making.Told t old new (made.Refused n) → OneOf 12 n × (new ≡ old)
+refused-making t old new n (a, e) = (one-of 12 (making.messageChecks t (length old)) (omega arith) (search (arith) depth 40) a, e)
