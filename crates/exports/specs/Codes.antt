@@ -2,6 +2,8 @@
 use Prim.Native.Nat.{ℕ, _+_, _%_}
 use Rattle.codec.specs.declared.Outcome.{Outcome}
 use Rattle.codec.specs.declared.Outcome.the-variants as outcome
+use Rattle.correction.specs.declared.Correction.{Correction}
+use Rattle.correction.specs.declared.Correction.the-variants as correction
 use Rattle.field.specs.declared.Value.{Value}
 use Rattle.field.specs.declared.Value.the-variants.{Symbol, Refused}
 use Rattle.verifier.specs.declared.Verdict.{Verdict}
@@ -22,3 +24,8 @@ abbrev pub verdictCode : Verdict → ℕ
 verdictCode (verdict.Accept n) = n % 65536
 verdictCode (verdict.Reject n) = 65536 + n % 65536
 verdictCode (verdict.Refused n) = 131072 + n
+
+-- the number of differences, or 65536 and the number of the refusal
+abbrev pub correctionCode : Correction → ℕ
+correctionCode (correction.Corrected n) = n % 65536
+correctionCode (correction.Refused n) = 65536 + n

@@ -4,6 +4,7 @@ mod files;
 mod places;
 
 use codec::Outcome;
+use correction::Correction;
 use field::Field;
 use field::Value;
 use field::modulus::all_symbols;
@@ -14,13 +15,14 @@ ghost use mathlib.Core.Path.{_≡_};
 ghost use Rattle.field.specs.Binary.{_⊕_, product};
 ghost use Rattle.field.specs.Calls.{fieldChecks, Told};
 ghost use Rattle.codec.specs.Calls.{Encoded, Decoded};
+ghost use Rattle.correction.specs.Calls.{CorrectedWord};
 ghost use Rattle.prover.specs.Calls.{Proven};
 ghost use Rattle.field.specs.Products.{Sized};
 ghost use Rattle.lists.specs.Answers.{Answers};
 ghost use Rattle.space.specs.Setting.{settingChecks};
 ghost use Rattle.verifier.specs.Checker;
 ghost use Rattle.exports.specs.Lists.{listChecks, productChecks, Added};
-ghost use Rattle.exports.specs.Codes.{outcomeCode, valueCode, verdictCode};
+ghost use Rattle.exports.specs.Codes.{correctionCode, outcomeCode, valueCode, verdictCode};
 
 fn value_code(v: Value) -> u32
     ensures { λ r. ⌜ r ≡ valueCode v ⌝ }
@@ -47,6 +49,15 @@ fn verdict_code(v: Verdict) -> u64
         Verdict::Accept(n) => n as u64 % 65536,
         Verdict::Reject(n) => 65536 + n as u64 % 65536,
         Verdict::Refused(n) => 131072 + n as u64,
+    }
+}
+
+fn correction_code(c: Correction) -> u64
+    ensures { λ r. ⌜ r ≡ correctionCode c ⌝ }
+{
+    match c {
+        Correction::Corrected(n) => n as u64 % 65536,
+        Correction::Refused(n) => 65536 + n as u64,
     }
 }
 
@@ -164,4 +175,17 @@ pub extern "C" fn proximity_prove(
     ensures { λ r. ⌜ ((o : Outcome) × Proven modulus (now (basis .entry)) (now (word .entry)) (now (proof .entry)) (now (proof .exit)) (now (scratch .entry)) (now (scratch .exit)) o × (r ≡ outcomeCode o)) ⌝ }
 {
     outcome_code(prover::prove(modulus, basis, word, proof, scratch))
+}
+
+#[no_mangle]
+pub extern "C" fn proximity_correct(
+    modulus: u32,
+    basis: &[u16],
+    word: &[u16],
+    corrected: &mut [u16],
+    scratch: &mut [u16],
+) -> u64
+    ensures { λ r. ⌜ ((c : Correction) × CorrectedWord modulus (now (basis .entry)) (now (word .entry)) (now (corrected .entry)) (now (corrected .exit)) (now (scratch .entry)) (now (scratch .exit)) c × (r ≡ correctionCode c)) ⌝ }
+{
+    correction_code(correction::correct(modulus, basis, word, corrected, scratch))
 }
