@@ -16,26 +16,29 @@ extern "C" {
 #endif
 
 /* Goes up where a call or a number is added. */
-#define PROXIMITY_VERSION 1
+#define PROXIMITY_VERSION 2
 
 /* The verdicts. */
 #define PROXIMITY_ACCEPT 0u
 #define PROXIMITY_REJECT 100u
 
-/* The refusals. The calls below give 1 to 5, 8, 9, 11 and 12; the other numbers belong to calls on symbols. Later versions may
- * give other numbers: any answer that is no verdict is a refusal. */
+/* The refusals. The calls below give 1 to 5, 8, 9, 11 and 12; the other numbers belong to calls that are not declared here.
+ * Later versions may give other numbers: any answer that is no verdict is a refusal. */
 #define PROXIMITY_REFUSED_MODULUS_RANGE 1u     /* the modulus is below 8 or above 131071 */
 #define PROXIMITY_REFUSED_MODULUS_REDUCIBLE 2u /* the modulus is reducible */
 #define PROXIMITY_REFUSED_BASIS_SIZE 3u        /* the basis has fewer than 3 or more than 12 elements */
-#define PROXIMITY_REFUSED_BASIS_RANGE 4u       /* a basis element is not below 2^l, l being the modulus's degree */
+#define PROXIMITY_REFUSED_BASIS_RANGE 4u       /* a basis element is not below 2^l, l being the degree of the modulus */
 #define PROXIMITY_REFUSED_BASIS_DEPENDENT 5u   /* the basis is dependent (a zero or a repeat included) */
-#define PROXIMITY_REFUSED_LENGTH 6u            /* a word, coefficient list or proof has another length than the setting's */
-#define PROXIMITY_REFUSED_SCRATCH 7u           /* the scratch is too short */
+#define PROXIMITY_REFUSED_LENGTH 6u            /* a lent list has another length than the setting fixes, or a file is above
+                                                * its limit */
+#define PROXIMITY_REFUSED_SCRATCH 7u           /* the scratch is shorter than the call takes */
 #define PROXIMITY_REFUSED_COIN 8u              /* the coin is not below 2^R */
-#define PROXIMITY_REFUSED_SYMBOL 9u            /* a symbol is not below 2^l */
+#define PROXIMITY_REFUSED_SYMBOL 9u            /* a symbol that the call reads is not below 2^l */
 #define PROXIMITY_REFUSED_NO_CODEWORD 10u      /* the word given to prover or decoder is not a codeword */
-#define PROXIMITY_REFUSED_CUT 11u              /* the file ends before its last record is whole, or a mark differs */
-#define PROXIMITY_REFUSED_COUNT 12u            /* a stored count is not the setting's, or bytes follow the last record */
+#define PROXIMITY_REFUSED_CUT 11u              /* a file ends before its last record is whole, or a mark differs */
+#define PROXIMITY_REFUSED_COUNT 12u            /* a count is not the one that the setting fixes, or bytes follow the last
+                                                * record */
+#define PROXIMITY_REFUSED_FAR 13u              /* no codeword differs from the word in at most 7/16 of its positions */
 
 /* The number of the first check that refuses the file, or 0. */
 uint32_t proximity_file_refusal(const uint8_t *file, size_t length);
