@@ -1,9 +1,9 @@
 // There and back at dimension 12 over GF(2^16), and the word with another last symbol. Of the output
 // a digest is shown.
-use super::cleared;
 use super::outcome;
+use case_lines::cleared;
+use case_lines::figure;
 use codec::Outcome;
-use libc::STDOUT_FILENO;
 
 // A number that depends on each symbol and its place.
 fn digest(xs: &[u16]) -> u32 {
@@ -18,8 +18,7 @@ fn digest(xs: &[u16]) -> u32 {
 
 fn show(label: &[u8], r: Outcome, out: &[u16], scratch: &[u16]) {
     outcome(label, r);
-    io::write_all(STDOUT_FILENO, b" digest ");
-    io::print_decimal(STDOUT_FILENO, digest(out) as u64);
+    figure(b" digest ", digest(out) as u64);
     cleared(scratch);
 }
 

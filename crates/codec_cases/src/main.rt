@@ -5,38 +5,17 @@
 mod largest;
 mod text;
 
+use case_lines::cleared;
+use case_lines::figure;
+use case_lines::numbers;
 use codec::Outcome;
 use libc::STDIN_FILENO;
 use libc::STDOUT_FILENO;
 use text::at_most;
 use text::decimal;
 use text::list;
-use text::one_if;
 use text::part;
 use text::place;
-
-fn number(x: u16) {
-    io::write_all(STDOUT_FILENO, b" ");
-    io::print_decimal(STDOUT_FILENO, x as u64);
-}
-
-fn numbers(xs: &[u16]) {
-    let mut i = 0;
-    while i < xs.len() {
-        number(xs[i]);
-        i += 1;
-    }
-}
-
-fn zeros(xs: &[u16]) -> usize {
-    let mut n: usize = 0;
-    let mut i = 0;
-    while i < xs.len() {
-        n += one_if(xs[i] == 0);
-        i += 1;
-    }
-    n
-}
 
 fn outcome(label: &[u8], r: Outcome) {
     io::write_all(STDOUT_FILENO, label);
@@ -45,17 +24,10 @@ fn outcome(label: &[u8], r: Outcome) {
             io::write_all(STDOUT_FILENO, b" done,");
         }
         Outcome::Refused(n) => {
-            io::write_all(STDOUT_FILENO, b" refused ");
-            io::print_decimal(STDOUT_FILENO, n as u64);
+            figure(b" refused ", n as u64);
             io::write_all(STDOUT_FILENO, b",");
         }
     }
-}
-
-fn cleared(scratch: &[u16]) {
-    io::write_all(STDOUT_FILENO, b", zeros ");
-    io::print_decimal(STDOUT_FILENO, zeros(scratch) as u64);
-    io::write_all(STDOUT_FILENO, b"\n");
 }
 
 // ---- the cases of the file stdin

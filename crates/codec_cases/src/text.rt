@@ -1,18 +1,10 @@
 // Cases as text. A case is a line of parts: its label, which a colon ends, then 0 to encode or 1 to
 // decode, the modulus, the basis, the coefficients or the word, the length of the output and that of
 // the scratch, which semicolons end. A space stands before each number.
+use case_lines::one_if;
 ghost use Prim.Native.Nat.{_≤_};
 ghost use Rattle.io.specs.Counts.{Counts};
 ghost use lib.ListN.{length};
-
-pub fn one_if(b: bool) -> usize
-    ensures { λ r. ⌜ r ≤ 1 ⌝ }
-{
-    if b {
-        return 1;
-    }
-    0
-}
 
 // The number n, or that of xs where n is more.
 pub fn at_most(xs: &[u16], n: usize) -> usize

@@ -1,9 +1,9 @@
--- `codec_cases::zeros` meets its contract. Assumes nothing.
+-- `case_lines::zeros` meets its contract. Assumes nothing.
 use Prim.Native.Nat.{_-_, _≤_}
 use native.Mathlib.Omega.{arith}
 use lib.ListN.{length}
-use Rattle.codec_cases.proofs.zeros.Statement.{statement}
-use Rattle.codec_cases.proofs.zeros.Tie as tie
+use Rattle.case_lines.proofs.zeros.Statement.{statement}
+use Rattle.case_lines.proofs.zeros.Tie as tie
 
 abbrev Inv-loop : tie.InvT-loop
 Inv-loop xs n₀ i₀ n i = (i ≤ length xs) × (n ≤ i)

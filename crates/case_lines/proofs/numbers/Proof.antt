@@ -1,9 +1,9 @@
--- `codec_cases::numbers` meets its contract. Assumes nothing.
+-- `case_lines::numbers` meets its contract. Assumes nothing.
 use Prim.Native.Nat.{_-_, _≤_}
 use native.Mathlib.Omega.{arith}
 use lib.ListN.{length}
-use Rattle.codec_cases.proofs.numbers.Statement.{statement}
-use Rattle.codec_cases.proofs.numbers.Tie as tie
+use Rattle.case_lines.proofs.numbers.Statement.{statement}
+use Rattle.case_lines.proofs.numbers.Tie as tie
 
 abbrev Inv-loop : tie.InvT-loop
 Inv-loop xs i₀ i = i ≤ length xs
