@@ -13,6 +13,9 @@ use Rattle.field.specs.Calls as field
 use Rattle.field.specs.declared.Value.the-variants as value
 use Rattle.space.specs.Setting.{settingChecks, noSetting, Settled}
 use Rattle.space.specs.declared.Checked.{Checked}
+use Rattle.correction.specs.Calls.{correctChecks, CorrectedWord}
+use Rattle.correction.specs.declared.Correction.{Correction}
+use Rattle.correction.specs.declared.Correction.the-variants as correction
 use Rattle.verifier.specs.Checker as checker
 use Rattle.verifier.specs.declared.Verdict.the-variants as verdict
 use Rattle.stored.specs.Check.{coinChecks, AnsweredFile}
@@ -46,7 +49,7 @@ OneOf most n = Listed n × (n ≤ most)
 one-of : (most : ℕ) (cs : Checks) {n : ℕ} → most ≤ length numbers → Within most cs → Refuses cs n → OneOf most n
 one-of most cs {n} h w (l, a) = let top : n ≤ most = answer-within cs w a in (listed n l (omega arith), top)
 
--- ---- encoder, decoder and prover
+-- ---- encoder, decoder, prover and correction
 
 -- the number n and what the call leaves: up to check 7 the scratch is as it came, past it all zeros
 pub record LeftBy (most n : ℕ) (old new scratch left : List ℕ) : Type 0 where
@@ -73,6 +76,9 @@ module _ (m : ℕ) (bs p old new scratch left : List ℕ) where
   pub refused-proving : (n : ℕ) → Proven m bs p old new scratch left (Refused n) → LeftBy 10 n old new scratch left
   refused-proving = left-by (proveChecks m bs p (length old) (length scratch)) old new scratch left 10 (omega arith) (search (arith) depth 30)
 
+  pub refused-correcting : (n : ℕ) → CorrectedWord m bs p old new scratch left (correction.Refused n) → LeftBy 13 n old new scratch left
+  refused-correcting = left-by (correctChecks m bs p (length old) (length scratch)) old new scratch left 13 (omega arith) (search (arith) depth 30)
+
   -- a call that no check refuses is done
   pub encoding-done : Passes (encodeChecks m bs p (length old) (length scratch)) → (u : Outcome) → Encoded m bs p old new scratch left u → u ≡ Done
   encoding-done = done (encodeChecks m bs p (length old) (length scratch)) old new scratch left _
@@ -82,6 +88,11 @@ module _ (m : ℕ) (bs p old new scratch left : List ℕ) where
 
   pub proving-done : Passes (proveChecks m bs p (length old) (length scratch)) → (u : Outcome) → Proven m bs p old new scratch left u → u ≡ Done
   proving-done = done (proveChecks m bs p (length old) (length scratch)) old new scratch left _
+
+  pub correcting-done : Passes (correctChecks m bs p (length old) (length scratch)) → (u : Correction) → CorrectedWord m bs p old new scratch left u
+      → (n : ℕ) × (u ≡ correction.Corrected n)
+  correcting-done a (correction.Corrected n) t = (n, refl)
+  correcting-done a (correction.Refused n) t = absurd (not-refused (correctChecks m bs p (length old) (length scratch)) a (t .refuses))
 
 -- ---- the other calls
 
