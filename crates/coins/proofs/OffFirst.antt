@@ -20,10 +20,12 @@ use Rattle.poly.specs.Blocks.{blockCoeffs}
 use Rattle.space.specs.Images.{Images}
 use Rattle.transform.specs.Blocks.{InBlocks, BlocksEvaluated, Tested}
 use Rattle.transform.proofs.BlockLaws.{eight}
-use Rattle.coins.specs.Lanes.{firstLane, inOrder}
+use Rattle.evaluation.specs.Lanes.{inOrder, in-order-word}
+use Rattle.correction.specs.Differences.{differences}
+use Rattle.coins.specs.Lanes.{firstLane}
 use Rattle.coins.specs.OffLaws.{off-blocks}
-use Rattle.coins.specs.Totals.{differences, Off}
-use Rattle.coins.proofs.LaneLaws.{length-first, first-each, first-lane, in-order-word}
+use Rattle.coins.specs.Totals.{Off}
+use Rattle.coins.proofs.LaneLaws.{length-first, first-each, first-lane}
 
 module _ (f : Field) (images : List ℕ) (k : ℕ) (w : List ℕ) (pre : InBlocks f images k w) where
   abbrev q : ℕ

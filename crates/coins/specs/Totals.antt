@@ -1,18 +1,17 @@
 -- What the counter over all coins of a stored file answers: the length of the file, the file's own checks, and then the totals. Definitions only.
 use mathlib.Core.Path.{_≡_}
 use mathlib.Core.Logic.{_⊎_}
-use mathlib.Core.List.{List, [], _∷_}
-use Prim.Native.Nat.{ℕ, zero, suc, _+_, _-_, _^_, _<_, max}
-use lib.Dec.{eqb}
+use mathlib.Core.List.{List, _∷_}
+use Prim.Native.Nat.{ℕ, zero, suc, _-_, _^_, _<_, max}
 use lib.ListN.{length, getD}
 use Rattle.lists.specs.All.{All}
 use Rattle.lists.specs.Answers.{Checks, Passes, Refuses}
-use Rattle.lists.specs.Pick.{pick}
 use Rattle.field.specs.Laws.{Ops}
 use Rattle.field.specs.Symbols.{symbols}
 use Rattle.poly.specs.Codeword.{wordOf}
 use Rattle.poly.specs.Poly.{eval}
 use Rattle.poly.specs.Span.{elem}
+use Rattle.correction.specs.Differences.{differences}
 use Rattle.proximity.specs.Dim.{R}
 use Rattle.verifier.specs.Checker.{readsOf}
 use Rattle.verifier.specs.declared.Verdict.the-variants.{Reject}
@@ -41,13 +40,6 @@ pub record Swept (f : List ℕ) (k coins rejects most : ℕ) : Type 0 where
   pub reads : most ≡ mostOf (2 ^ R (dimIn f)) (readsOf (dimIn f))
 
 -- ---- the word
-
--- at how many of the positions that both have two lists differ
-abbrev pub differences : List ℕ → List ℕ → ℕ
-differences [] [] = 0
-differences [] (y ∷ ys) = 0
-differences (x ∷ xs) [] = 0
-differences (x ∷ xs) (y ∷ ys) = pick (eqb x y) 0 1 + differences xs ys
 
 module _ (K : Ops) (k : ℕ) (b w : List ℕ) where
   -- p has degree below n/8 and goes through the first n/8 symbols of w

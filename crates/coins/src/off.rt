@@ -1,5 +1,6 @@
 // At how many positions a word of dimension at most SMALL differs from the polynomial through its
 // first eighth.
+use correction::nearest::differing;
 use field::Field;
 use space::CELLS;
 use space::Setting;
@@ -8,15 +9,15 @@ use transform::blocks::evaluate_blocks;
 use transform::blocks::is_codeword;
 ghost use mathlib.Core.Path.{_≡_};
 ghost use mathlib.Core.List.{List};
-ghost use Prim.Native.Nat.{ℕ, _*_, _^_, _≤_};
+ghost use Prim.Native.Nat.{ℕ, _^_, _≤_};
 ghost use lib.ListN.{length};
 ghost use Rattle.field.specs.Symbols.{symbols};
 ghost use Rattle.poly.specs.Codeword.{Basis};
 ghost use Rattle.space.specs.Images.{Images};
 ghost use Rattle.transform.specs.Blocks.{InBlocks};
 ghost use Rattle.stored.specs.File.{smallDim};
-ghost use Rattle.coins.specs.Lanes.{firstLane, inOrder};
-ghost use Rattle.coins.specs.Totals.{differences, Off};
+ghost use Rattle.coins.specs.Lanes.{firstLane};
+ghost use Rattle.coins.specs.Totals.{Off};
 
 // Copies lane 0 into all eight lanes.
 fn spread(lanes: &mut [u16])
@@ -29,23 +30,8 @@ fn spread(lanes: &mut [u16])
     }
 }
 
-// At how many positions the word differs from the one whose eight blocks are the lanes.
-fn differing(word: &[u16], size: usize, lanes: &[u16]) -> usize
-    requires { ⌜ (length (now word) ≡ 8 * size) × (length (now lanes) ≡ 8 * size) ⌝ }
-    ensures { λ r. ⌜ r ≡ differences (now (word .entry)) (inOrder size (now (lanes .entry))) ⌝ }
-{
-    let mut n: usize = 0;
-    let mut i = 0;
-    while i < word.len() {
-        if word[i] != lanes[i % size * 8 + i / size] {
-            n += 1;
-        }
-        i += 1;
-    }
-    n
-}
-
-// The same with the polynomial through the first eighth; lanes is room for its word.
+// At how many positions the word differs from that of the polynomial through its first eighth;
+// lanes is room for that word.
 fn off_first(f: Field, images: &[u16; CELLS], k: usize, word: &[u16], lanes: &mut [u16]) -> usize
     requires { ⌜ InBlocks f (now images) k (now word) × (length (now lanes) ≡ length (now word)) ⌝ }
     ensures { λ r. ⌜ ((b : List ℕ) → Basis (symbols (f .modulus)) k b → Images (symbols (f .modulus)) b (now (images .entry)) → Off (symbols (f .modulus)) k b (now (word .entry)) r) ⌝ }

@@ -4,7 +4,7 @@ use mathlib.Core.List.{List}
 use Prim.Native.Nat.{ℕ, _+_, _-_, _*_, _^_, _≤_, _<_}
 use native.Mathlib.Nat.{mul-comm}
 use native.Mathlib.Omega.{arith}
-use lib.ListN.{length, getD}
+use lib.ListN.{length, getD, take}
 use lib.Seq.{ext-getD}
 use Rattle.lists.specs.Lanes.{lane, getD-lane, length-lane}
 use Rattle.lists.specs.Stretch.{stretch}
@@ -20,11 +20,12 @@ use Rattle.space.specs.Ready.{Ready}
 use Rattle.space.specs.Usable.{usable, ready-field, ready-basis}
 use Rattle.space.specs.declared.Setting.{Setting}
 use Rattle.transform.specs.Slices.{Transposed}
-use Rattle.transform.specs.Blocks.{InBlocks, BlocksEvaluated}
+use Rattle.transform.specs.Blocks.{block, InBlocks, BlocksEvaluated}
 use Rattle.transform.proofs.BlockLaws.{eight}
 use Rattle.novel.specs.Novel.{NovelOf}
 use Rattle.novel.specs.Settings.{steps-of}
-use Rattle.evaluation.specs.Words.{spreadOf, Filling, LanesOf}
+use Rattle.evaluation.specs.Lanes.{inOrder, in-order-word}
+use Rattle.evaluation.specs.Words.{spreadOf, Filling, LanesOf, InLanes}
 use Rattle.evaluation.proofs.Spreading.{length-spread, spread-each, spread-lane}
 
 module _ {f : _} {images : List ℕ} {k : ℕ} {d : List ℕ} (g : Filling f images k d) where
@@ -80,13 +81,27 @@ module _ {s : Setting} {bs : List ℕ} (r : Ready (s .field .modulus) bs s) wher
   eight-sizes : 2 ^ k ≡ 8 * size
   eight-sizes = eight k (usable r .low) ∙ mul-comm size 8
 
-  pub written : (p word lanes old new : List ℕ) → NovelOf q (s .steps) (k - 3) p word → LanesOf q (s .space .images) k (stretch size size word) lanes
-      → Transposed size 8 lanes old new → length new ≡ 2 ^ k → new ≡ wordOf (symbols q) (length bs) bs p
-  written p word lanes old new n l t ln =
-      let d : List ℕ = stretch size size word in
-      transposed-word size lanes old new (wordOf (symbols q) k bs (monomials (symbols q) bs (k - 3) d)) t (ln ∙ eight-sizes)
-      (length-tab (2 ^ k) (λ i. eval (symbols q) (monomials (symbols q) bs (k - 3) d) (elem (symbols q) bs i)) ∙ eight-sizes)
-      (l bs (ready-basis r) (r .images))
-      ∙ same-word (ready-field r) k bs (ready-basis r) (monomials (symbols q) bs (k - 3) d) p
+  abbrev word : List ℕ → List ℕ
+  word p = wordOf (symbols q) (length bs) bs p
+
+  length-word : (p : List ℕ) → length (word p) ≡ 8 * size
+  length-word p = length-tab (2 ^ length bs) (λ i. eval (symbols q) p (elem (symbols q) bs i)) ∙ ap (λ (i : ℕ). 2 ^ i) (sym (r .dimension)) ∙ eight-sizes
+
+  -- the lanes are the blocks of the word of p
+  pub blocks-written : (p work lanes : List ℕ) → NovelOf q (s .steps) (k - 3) p work → LanesOf q (s .space .images) k (stretch size size work) lanes
+      → (i : ℕ) → i < 8 → block k i lanes ≡ part size i (word p)
+  blocks-written p work lanes n l i h =
+      let d : List ℕ = stretch size size work in
+      l bs (ready-basis r) (r .images) i h
+      ∙ ap (part size i)
+      (same-word (ready-field r) k bs (ready-basis r) (monomials (symbols q) bs (k - 3) d) p
       (λ x sx. eval-monomials (ready-field r) bs (k - 3) d x sx ∙ n .values bs (steps-of r (k - 3) (omega arith)) x sx)
-      ∙ ap (λ (i : ℕ). wordOf (symbols q) i bs p) (r .dimension)
+      ∙ ap (λ (i : ℕ). wordOf (symbols q) i bs p) (r .dimension))
+
+  -- one after the other they are the word
+  module _ (p scratch : List ℕ) (l : InLanes s p scratch) where
+    pub lanes-transposed : (old new : List ℕ) → Transposed size 8 (take (2 ^ k) scratch) old new → length new ≡ 2 ^ k → new ≡ word p
+    lanes-transposed old new t ln = transposed-word size (take (2 ^ k) scratch) old new (word p) t (ln ∙ eight-sizes) (length-word p) (l bs r)
+
+    pub lanes-in-order : inOrder size (take (2 ^ k) scratch) ≡ word p
+    lanes-in-order = in-order-word size (take (2 ^ k) scratch) (word p) (length-word p) (l bs r)

@@ -1,2 +1,3 @@
 -- From coefficients to the word.
 pub mod Words
+pub mod Lanes

@@ -1,22 +1,20 @@
 // The word of a polynomial: its values at the elements of the space, in a setting that passed its
-// checks.
+// checks. The word is told by its eight blocks, which are lanes.
 use field::Field;
 use novel::novel_of;
 use space::CELLS;
+use space::MAX_COEFFICIENTS;
 use space::Setting;
 use transform::blocks::evaluate_blocks;
-use transform::slices::transpose;
+use transform::slices::copy;
 ghost use mathlib.Core.Path.{_≡_};
-ghost use mathlib.Core.List.{List};
-ghost use Prim.Native.Nat.{ℕ, _*_, _^_};
+ghost use Prim.Native.Nat.{_+_, _*_, _^_, _≤_};
 ghost use lib.ListN.{length};
 ghost use Rattle.lists.specs.All.{Below};
 ghost use Rattle.field.specs.Binary.{degree};
-ghost use Rattle.field.specs.Symbols.{symbols};
-ghost use Rattle.poly.specs.Codeword.{wordOf};
-ghost use Rattle.space.specs.Ready.{Ready};
+ghost use Rattle.space.specs.Sizes.{maxCoefficients};
 ghost use Rattle.space.specs.Usable.{Usable};
-ghost use Rattle.evaluation.specs.Words.{spreadOf, Fits, Filling, LanesOf};
+ghost use Rattle.evaluation.specs.Words.{spreadOf, Fits, Filling, LanesOf, Taken, InLanes};
 
 // Each number eight times.
 fn spread(from: &[u16], to: &mut [u16])
@@ -39,19 +37,35 @@ fn fill_lanes(f: Field, images: &[u16; CELLS], k: usize, d: &[u16], lanes: &mut 
     evaluate_blocks(f, images, k, lanes);
 }
 
-// The word of coefficients that are symbols.
-pub fn write_word(s: Setting, coefficients: &[u16], word: &mut [u16], scratch: &mut [u16])
-    requires { ⌜ Usable s × Fits s (now coefficients) (now word) (now scratch) × Below (2 ^ degree (s .field .modulus)) (now coefficients) ⌝ }
-    ensures { λ _. ⌜ ((bs : List ℕ) → Ready (s .field .modulus) bs s → now (word .exit) ≡ wordOf (symbols (s .field .modulus)) (length bs) bs (now (coefficients .entry))) ⌝ }
+fn no_coefficients() -> [u16; MAX_COEFFICIENTS]
+    ensures { λ r. ⌜ length r ≡ maxCoefficients ⌝ }
+{
+    [0u16; MAX_COEFFICIENTS]
+}
+
+// The d numbers from a place on, in front.
+pub fn taken(from: &[u16], at: usize, d: usize) -> [u16; MAX_COEFFICIENTS]
+    requires { ⌜ (at + d ≤ length (now from)) × (d ≤ maxCoefficients) ⌝ }
+    ensures { λ r. ⌜ Taken at d (now (from .entry)) r ⌝ }
+{
+    let mut out = no_coefficients();
+    let end = at + d;
+    copy(&from[at..end], &mut out[..d]);
+    out
+}
+
+// The eight blocks, as lanes in front of the scratch, of the word of coefficients that are symbols.
+pub fn write_lanes(s: Setting, coefficients: &[u16], scratch: &mut [u16])
+    requires { ⌜ Usable s × Fits s (now coefficients) (now scratch) × Below (2 ^ degree (s .field .modulus)) (now coefficients) ⌝ }
+    ensures { λ _. ⌜ InLanes s (now (coefficients .entry)) (now (scratch .exit)) ⌝ }
 {
     let f = s.field;
     let images = s.space.images;
     let steps = s.steps;
     let k = s.space.k;
     let size = coefficients.len();
-    let end = size + size;
-    let n = word.len();
-    novel_of(f, &steps, k - 3, coefficients, word);
-    fill_lanes(f, &images, k, &word[size..end], &mut scratch[..n]);
-    transpose(&scratch[..n], size, 8, word);
+    let n = 8 * size;
+    novel_of(f, &steps, k - 3, coefficients, scratch);
+    let d = taken(scratch, size, size);
+    fill_lanes(f, &images, k, &d[..size], &mut scratch[..n]);
 }

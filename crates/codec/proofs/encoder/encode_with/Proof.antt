@@ -2,7 +2,6 @@
 use mathlib.Core.Path.{refl}
 use mathlib.Core.Logic.{inl, inr}
 use Prim.Native.Nat.{_^_}
-use native.Mathlib.Omega.{arith}
 use borrow.Author.Needs.{needs}
 use Rattle.lists.specs.All.{Below}
 use Rattle.lists.specs.Decides.{decides-true, decides-false}
@@ -23,11 +22,8 @@ all-symbols-requires c κs = search needs
 write-word-requires : tie.Need-write-word-requires
 write-word-requires c κs =
     let then = c .before .before in
-    let at = then .before in (
-      start at .pre .0,
-      record { eighth = start at .pre .1 .eighth; whole = start at .pre .1 .whole; room = omega (arith, start at .pre .1 .room) },
-      decides-true (Symbols at) (at .all-symbols .ensures) (then .if1 .taken),
-    )
+    let at = then .before in
+    (start at .pre .0, start at .pre .1, decides-true (Symbols at) (at .all-symbols .ensures) (then .if1 .taken))
 
 same-length : tie.Need-same-length
 same-length c = search needs

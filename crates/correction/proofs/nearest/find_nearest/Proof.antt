@@ -3,12 +3,13 @@ use mathlib.Core.Path.{_≡_, sym, _∙_}
 use mathlib.Core.List.{List}
 use Prim.Native.Nat.{ℕ, _*_, _/_, _≤_}
 use native.Mathlib.Omega.{arith}
-use lib.ListN.{length}
+use lib.ListN.{length, take}
 use lib.Pow.{pow-mono}
 use lib.Seq.{length-take-le}
 use borrow.Author.Needs.{needs}
 use Rattle.space.specs.Usable.{usable}
 use Rattle.space.specs.Sizes.{maxDim, maxCoefficients, maxWord}
+use Rattle.correction.specs.Near.{eight}
 use Rattle.correction.specs.Scratch.{scratchWords}
 use Rattle.correction.proofs.NearestLaws.{length-p, symbols-p, nearest-found, nearest-none}
 use Rattle.correction.proofs.nearest.find_nearest.Statement.{statement}
@@ -25,9 +26,6 @@ module _ (c : tie.After-candidate) where
   abbrev word : List ℕ
   word = start .args .word .now
 
-  abbrev output : List ℕ
-  output = start .args .corrected .now
-
   abbrev n : ℕ
   n = length word
 
@@ -43,11 +41,14 @@ module _ (c : tie.After-candidate) where
   small : n / 8 ≤ maxCoefficients
   small = omega (arith, largest)
 
+  eights : n ≡ 8 * (n / 8)
+  eights = omega (arith, start .pre .0 .whole, eight (start .args .s .space .k) (usable (start .pre .0 .ready) .low))
+
 taken-requires : tie.Need-taken-requires
 taken-requires c κs =
     let a = c .before .before .before in
     let g = start a .pre .0 in
-    (omega (arith, a .candidate .ensures .fits, g .whole, Rattle.correction.specs.Near.eight (start a .args .s .space .k) (usable (g .ready) .low)), small a)
+    (omega (arith, a .candidate .ensures .fits, g .whole, eight (start a .args .s .space .k) (usable (g .ready) .low)), small a)
 
 -- ---- once its coefficients are taken
 module _ (c : tie.After-taken) where
@@ -57,50 +58,72 @@ module _ (c : tie.After-taken) where
   abbrev room : List ℕ
   room = c .taken .result
 
+  abbrev p : List ℕ
+  p = take (n at / 8) room
+
 array-share-prefix-p : tie.Need-array-share-prefix-p
 array-share-prefix-p c = omega (arith, small (at c), c .taken .ensures .count)
 
-slice-aggregate-try-word : tie.Need-slice-aggregate-try-word
-slice-aggregate-try-word c =
+slice-aggregate-write-lanes : tie.Need-slice-aggregate-write-lanes
+slice-aggregate-write-lanes c =
     let t = c .before in
     sym (length-take-le (n (at t) / 8) (room t) (omega (arith, t .taken .ensures .count, small (at t))))
 
-try-word-requires : tie.Need-try-word-requires
-try-word-requires c κs =
-    let t = c .before .before .before in
+write-lanes-requires : tie.Need-write-lanes-requires
+write-lanes-requires c κs =
+    let t = c .before .before in
     let a = at t in
     let s = start a in
-    let g = s .pre .0 in
-    record {
-      basis = g .basis;
-      ready = g .ready;
-      count = length-p g (s .args .scratch .now) (work a) (a .candidate .result) (a .candidate .ensures) (room t) (t .taken .ensures);
-      elements = symbols-p g (s .args .scratch .now) (work a) (a .candidate .result) (a .candidate .ensures) (room t) (t .taken .ensures);
-      whole = s .pre .2 ∙ g .whole;
-      room = omega (arith, s .pre .2, long a);
-    }
+    let g = s .pre .0 in (
+      usable (g .ready),
+      record {
+        eighth = length-p g (s .args .scratch .now) (work a) (a .candidate .result) (a .candidate .ensures) (room t) (t .taken .ensures);
+        room = omega (arith, g .whole, long a);
+      },
+      symbols-p g (s .args .scratch .now) (work a) (a .candidate .result) (a .candidate .ensures) (room t) (t .taken .ensures),
+    )
 
--- ---- once its word is written
-module _ (c : tie.After-try-word) where
+-- ---- once its word stands in lanes
+module _ (c : tie.After-write-lanes) where
   abbrev took : tie.After-taken
-  took = c .before .before .before .before
+  took = c .before .before .before
 
-  abbrev new : List ℕ
-  new = c .try-word .last .1 .1 .0
+  abbrev scratch : List ℕ
+  scratch = c .write-lanes .last .1 .1 .0
 
-  abbrev left : List ℕ
-  left = c .try-word .last .1 .1 .1 .0
+  front : length (take (n (at took)) scratch) ≡ n (at took)
+  front = length-take-le (n (at took)) scratch (omega (arith, c .write-lanes .kept .1 .1 .0, long (at took)))
 
-  length-new : length new ≡ length (output (at took))
-  length-new = c .try-word .kept .1 .1 .0
+slice-reshare-prefix-differing : tie.Need-slice-reshare-prefix-differing
+slice-reshare-prefix-differing c = let w = c .before .before in omega (arith, w .write-lanes .kept .1 .1 .0, long (at (took w)))
+
+slice-aggregate-differing : tie.Need-slice-aggregate-differing
+slice-aggregate-differing c = sym (front (c .before .before .before))
 
 differing-requires : tie.Need-differing-requires
 differing-requires c κs =
-    let w = c .before .before .before .before .before in
-    sym (length-new w ∙ start (at (took w)) .pre .2)
+    let w = c .before .before .before in
+    (eights (at (took w)), front w ∙ eights (at (took w)))
+
+-- ---- once the differences are counted
+module _ (c : tie.After-differing) where
+  abbrev lanes : tie.After-write-lanes
+  lanes = c .before .before .before .before
 
 radius-requires : tie.Need-radius-requires
-radius-requires c κs = let w = c .before .before .before .before .before .before in largest (at (took w))
+radius-requires c κs = largest (at (took (lanes c)))
+
+slice-reshare-prefix-transpose : tie.Need-slice-reshare-prefix-transpose
+slice-reshare-prefix-transpose c = let w = lanes (c .before .before) in omega (arith, w .write-lanes .kept .1 .1 .0, long (at (took w)))
+
+slice-aggregate-transpose : tie.Need-slice-aggregate-transpose
+slice-aggregate-transpose c = sym (front (lanes (c .before .before .before)))
+
+transpose-requires : tie.Need-transpose-requires
+transpose-requires c κs =
+    let w = lanes (c .before .before .before .before) in
+    let a = at (took w) in
+    (omega (arith, front w, eights a), omega (arith, start a .pre .2, eights a))
 
 same-length : tie.Need-same-length
 same-length c = search needs
@@ -110,37 +133,29 @@ same-length-2 c = search needs
 
 returns : tie.Need-returns
 returns c =
-    let d = c .before .before in
-    let w = d .before .before .before .before .before .before in
+    let moved = c .before .before in
+    let then = moved .before .before .before in
+    let d = then .before .before in
+    let w = lanes d in
     let t = took w in
     let a = at t in
     let s = start a in
-    nearest-found (s .pre .0) (s .args .scratch .now) (work a) (a .candidate .result) (a .candidate .ensures) (room t) (t .taken .ensures) (output a) (new w) (work a) (left w) (w .try-word .ensures)
-    (d .differing .result) (d .differing .ensures) (omega (arith, c .before .radius .ensures, c .if1 .taken))
-
-put-back-requires : tie.Need-put-back-requires
-put-back-requires c κs =
-    let d = c .before .before .before .before in
-    let w = d .before .before .before .before .before .before in
-    omega (arith, length-new w, start (at (took w)) .pre .2, w .try-word .ensures .kept, long (at (took w)))
+    nearest-found (s .pre .0) (s .args .scratch .now) (work a) (a .candidate .result) (a .candidate .ensures) (room t) (t .taken .ensures) (scratch w) (w .write-lanes .ensures)
+    (d .differing .result) (d .differing .ensures) (omega (arith, then .before .radius .ensures, then .if1 .taken)) (s .args .corrected .now) (moved .transpose .last .1 .1 .1 .0)
+    (moved .transpose .ensures) (s .pre .2)
 
 same-length-3 : tie.Need-same-length-3
 same-length-3 c = search needs
 
-same-length-4 : tie.Need-same-length-4
-same-length-4 c = search needs
-
 returns-2 : tie.Need-returns-2
 returns-2 c =
-    let b = c .before .before in
-    let e = b .before .before .before in
-    let d = e .before .before in
-    let w = d .before .before .before .before .before .before in
+    let d = c .before .before in
+    let w = lanes d in
     let t = took w in
     let a = at t in
     let s = start a in
-    nearest-none (s .pre .0) (s .args .scratch .now) (work a) (a .candidate .result) (a .candidate .ensures) (room t) (t .taken .ensures) (output a) (new w) (work a) (left w) (w .try-word .ensures)
-    (d .differing .result) (d .differing .ensures) (omega (arith, e .before .radius .ensures, e .if1 .left)) (b .put-back .last .1 .0) (b .put-back .ensures) (length-new w)
+    nearest-none (s .pre .0) (s .args .scratch .now) (work a) (a .candidate .result) (a .candidate .ensures) (room t) (t .taken .ensures) (scratch w) (w .write-lanes .ensures)
+    (d .differing .result) (d .differing .ensures) (omega (arith, c .before .radius .ensures, c .if1 .left)) (s .args .corrected .now)
 
 pub find-nearest-spec : {M : Type 1} → statement M
 find-nearest-spec =
@@ -149,14 +164,17 @@ find-nearest-spec =
     candidate-requires
     taken-requires
     array-share-prefix-p
-    slice-aggregate-try-word
-    try-word-requires
+    slice-aggregate-write-lanes
+    write-lanes-requires
+    slice-reshare-prefix-differing
+    slice-aggregate-differing
     differing-requires
     radius-requires
+    slice-reshare-prefix-transpose
+    slice-aggregate-transpose
+    transpose-requires
     same-length
     same-length-2
     returns
-    put-back-requires
     same-length-3
-    same-length-4
     returns-2)

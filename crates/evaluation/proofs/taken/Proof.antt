@@ -1,12 +1,12 @@
--- `correction::nearest::taken` meets its contract. Assumes nothing.
+-- `evaluation::taken` meets its contract. Assumes nothing.
 use mathlib.Core.Path.{sym}
 use mathlib.Core.List.{List}
 use Prim.Native.Nat.{ℕ}
 use native.Mathlib.Omega.{arith}
 use borrow.Author.Needs.{needs}
-use Rattle.correction.proofs.NearestLaws.{length-cut, length-front, taken-is}
-use Rattle.correction.proofs.nearest.taken.Statement.{statement}
-use Rattle.correction.proofs.nearest.taken.Tie as tie
+use Rattle.evaluation.proofs.Taking.{length-cut, length-front, taken-is}
+use Rattle.evaluation.proofs.taken.Statement.{statement}
+use Rattle.evaluation.proofs.taken.Tie as tie
 
 module _ (c : tie.After-no-coefficients) where
   abbrev start : tie.Start
