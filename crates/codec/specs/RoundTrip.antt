@@ -59,7 +59,7 @@ module _ (m : ℕ) (bs : List ℕ) where
     pub word-passes : (p w : List ℕ) → length p ≡ 2 ^ (length bs - 3) → All (symbols m .Sym) p → w ≡ wordOf (symbols m) (length bs) bs p → Passes (wordChecks m bs w)
     word-passes p w lp sp e = inr ((λ f. f (subst (Below (2 ^ degree m)) (sym e) (word-symbols p sp))), inr ((λ f. f (p, lp, sp, e)), refl))
 
-    length-word : (p w : List ℕ) → w ≡ wordOf (symbols m) (length bs) bs p → length w ≡ 2 ^ length bs
+    pub length-word : (p w : List ℕ) → w ≡ wordOf (symbols m) (length bs) bs p → length w ≡ 2 ^ length bs
     length-word p w e = subst (λ (l : List ℕ). length l ≡ 2 ^ length bs) (sym e) (length-tab (2 ^ length bs) (λ i. eval (symbols m) p (elem (symbols m) bs i)))
 
   -- what is decoded from an encoded word, by a call with enough room, is the coefficients

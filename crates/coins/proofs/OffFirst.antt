@@ -3,7 +3,6 @@ use mathlib.Core.Path.{_≡_, ap, _∙_}
 use mathlib.Core.Bool.{Bool}
 use mathlib.Core.List.{List}
 use Prim.Native.Nat.{ℕ, _-_, _*_, _/_, _^_, _<_}
-use native.Mathlib.Nat.{mul-comm}
 use native.Mathlib.Omega.{arith}
 use lib.ListN.{length}
 use lib.Pow.{pow-pos}
@@ -16,7 +15,7 @@ use Rattle.poly.specs.Poly.{eval}
 use Rattle.poly.specs.Span.{elem}
 use Rattle.poly.specs.Degree.{monomials}
 use Rattle.poly.specs.Codeword.{Basis, wordOf}
-use Rattle.poly.specs.Blocks.{blockCoeffs}
+use Rattle.poly.specs.Blocks.{eighths, blockCoeffs}
 use Rattle.space.specs.Images.{Images}
 use Rattle.transform.specs.Blocks.{InBlocks, BlocksEvaluated, Tested}
 use Rattle.transform.proofs.BlockLaws.{eight}
@@ -38,7 +37,7 @@ module _ (f : Field) (images : List ℕ) (k : ℕ) (w : List ℕ) (pre : InBlock
   size = 2 ^ (k - 3)
 
   eights : 2 ^ k ≡ 8 * size
-  eights = eight k (pre .low) ∙ mul-comm size 8
+  eights = eighths k (pre .low)
 
   -- the size of a block, as it is computed
   pub block-size : length w / 8 ≡ size

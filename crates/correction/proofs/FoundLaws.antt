@@ -12,11 +12,12 @@ use Rattle.field.specs.Laws.{Ops, IsField}
 use Rattle.field.specs.Symbols.{symbols}
 use Rattle.poly.specs.Span.{elem, elem-sym}
 use Rattle.poly.specs.Codeword.{basis-distinct}
+use Rattle.poly.specs.Blocks.{eighths}
 use Rattle.space.specs.Ready.{Ready}
 use Rattle.space.specs.declared.Setting.{Setting}
 use Rattle.space.specs.Usable.{usable, ready-field, ready-basis}
 use Rattle.correction.specs.Coefficients.{coeff}
-use Rattle.correction.specs.Near.{radius, NearPoly, eight}
+use Rattle.correction.specs.Near.{radius, NearPoly}
 use Rattle.correction.specs.Candidate.{Prepared, Found}
 use Rattle.correction.specs.Pairs.{polyAt, Pairs, Stepped}
 use Rattle.correction.specs.Quotient.{Divides, FactorOf, Divided}
@@ -49,7 +50,7 @@ module _ {s : Setting} {word : List ℕ} (g : InSetting s word) (old first : Lis
   factor = polyAt n (next + 4 * n) work
 
   pub sizes : (n ≡ 8 * 2 ^ (k - 3)) × (b ≤ n) × (0 < n)
-  sizes = (g .whole ∙ eight k (usable (g .ready) .low), st .held .large, omega (arith, g .whole, pow-pos k))
+  sizes = (g .whole ∙ eighths k (usable (g .ready) .low), st .held .large, omega (arith, g .whole, pow-pos k))
 
   pub at-most : at ≤ 6 * n
   at-most = by (st .held .place)

@@ -14,6 +14,7 @@ use Rattle.field.specs.Binary.{degree}
 use Rattle.field.specs.Laws.{Ops}
 use Rattle.field.specs.Symbols.{symbols}
 use Rattle.poly.specs.Codeword.{wordOf, Codeword}
+use Rattle.poly.specs.Blocks.{eighths}
 use Rattle.space.specs.Ready.{Ready}
 use Rattle.space.specs.declared.Setting.{Setting}
 use Rattle.space.specs.Usable.{usable, ready-basis}
@@ -24,7 +25,7 @@ use Rattle.evaluation.specs.Words.{Taken, InLanes}
 use Rattle.evaluation.proofs.WordLaws.{lanes-transposed, lanes-in-order}
 use Rattle.correction.specs.Candidate.{Found}
 use Rattle.correction.specs.Differences.{differences, differences-self}
-use Rattle.correction.specs.Near.{radius, Near, NearPoly, eight, near-poly}
+use Rattle.correction.specs.Near.{radius, Near, NearPoly, near-poly}
 use Rattle.correction.specs.Nearest.{NearestWith}
 use Rattle.correction.specs.Start.{InSetting}
 
@@ -39,7 +40,7 @@ module _ {s : Setting} {word : List ℕ} (g : InSetting s word) (old work : List
   size = 2 ^ (k - 3)
 
   pub eighth : length word / 8 ≡ size
-  eighth = omega (arith, g .whole, eight k (usable (g .ready) .low))
+  eighth = omega (arith, g .whole, eighths k (usable (g .ready) .low))
 
   abbrev p : List ℕ
   p = take (length word / 8) room

@@ -4,12 +4,12 @@ use mathlib.Core.List.{List}
 use Prim.Native.Nat.{ℕ, _+_, _*_, _-_, _/_, _^_, _≤_}
 use native.Mathlib.Omega.{arith}
 use lib.ListN.{length}
-use lib.Pow.{pow-add}
 use Rattle.lists.specs.All.{All}
 use Rattle.lists.specs.Tables.{length-tab, getD-tab}
 use Rattle.field.specs.Laws.{Ops, IsField}
 use Rattle.poly.specs.Poly.{eval, addP, length-addP, eval-addP, addP-sym, zeros-equal, sum-step}
 use Rattle.poly.specs.Span.{elem, elem-sym}
+use Rattle.poly.specs.Blocks.{eighths}
 use Rattle.poly.specs.Codeword.{Basis, wordOf, Codeword, basis-distinct}
 use Rattle.correction.specs.Coefficients.{coeff}
 use Rattle.correction.specs.Differences.{differences, differing, differing-le, differing-triangle, differing-sym, differences-differing, root-count}
@@ -29,9 +29,6 @@ module _ (K : Ops) (k : ℕ) (b w : List ℕ) where
     pub count : length p ≡ 2 ^ (k - 3)
     pub elements : All (K .Sym) p
     pub close : differing (2 ^ k) (coeff w) (λ i. eval K p (elem K b i)) ≤ radius (2 ^ k)
-
-pub eight : (k : ℕ) → 3 ≤ k → 2 ^ k ≡ 8 * 2 ^ (k - 3)
-eight k h = ap (λ (t : ℕ). 2 ^ t) {x = k} {y = 3 + (k - 3)} (omega arith) ∙ pow-add 2 3 (k - 3)
 
 module _ (K : Ops) (k : ℕ) (b w : List ℕ) (lw : length w ≡ 2 ^ k) where
   -- the differences from the word of a polynomial
@@ -55,7 +52,7 @@ module _ {K : Ops} (F : IsField K) (k : ℕ) (hk : 3 ≤ k) (b : List ℕ) (B : 
 
   -- twice the radius and the degree are no more than the length
   pub radius-fits : radius (2 ^ k) + radius (2 ^ k) + 2 ^ (k - 3) ≤ 2 ^ k
-  radius-fits = omega (arith, eight k hk)
+  radius-fits = omega (arith, eighths k hk)
 
   unique-poly : (p q : List ℕ) → NearPoly K k b w p → NearPoly K k b w q → p ≡ q
   unique-poly p q a c =

@@ -2,7 +2,6 @@
 use mathlib.Core.Path.{_≡_, sym, ap, _∙_}
 use mathlib.Core.List.{List}
 use Prim.Native.Nat.{ℕ, _+_, _-_, _*_, _^_, _≤_, _<_}
-use native.Mathlib.Nat.{mul-comm}
 use native.Mathlib.Omega.{arith}
 use lib.ListN.{length, getD, take}
 use lib.Seq.{ext-getD}
@@ -16,6 +15,7 @@ use Rattle.poly.specs.Poly.{eval}
 use Rattle.poly.specs.Span.{elem, elem-sym}
 use Rattle.poly.specs.Degree.{monomials, eval-monomials}
 use Rattle.poly.specs.Codeword.{Basis, wordOf}
+use Rattle.poly.specs.Blocks.{eighths}
 use Rattle.space.specs.Ready.{Ready}
 use Rattle.space.specs.Usable.{usable, ready-field, ready-basis}
 use Rattle.space.specs.declared.Setting.{Setting}
@@ -79,7 +79,7 @@ module _ {s : Setting} {bs : List ℕ} (r : Ready (s .field .modulus) bs s) wher
   size = 2 ^ (k - 3)
 
   eight-sizes : 2 ^ k ≡ 8 * size
-  eight-sizes = eight k (usable r .low) ∙ mul-comm size 8
+  eight-sizes = eighths k (usable r .low)
 
   abbrev word : List ℕ → List ℕ
   word p = wordOf (symbols q) (length bs) bs p

@@ -5,7 +5,7 @@ use mathlib.Core.List.{List, [], _∷_, _++_}
 use Prim.Native.Nat.{ℕ, _≤_, _<_}
 use native.Mathlib.Omega.{arith}
 use lib.ListN.{length, replicate}
-use Rattle.lists.specs.Answers.{Checks, Answers, Passes, Refuses, Numbered, answers-after, refused-first}
+use Rattle.lists.specs.Answers.{Checks, Answers, Passes, Refuses, Numbered, answers-one, answers-after, refused-first}
 
 abbrev pub zeros : ℕ → List ℕ
 zeros n = replicate n 0
@@ -34,6 +34,12 @@ pub answer-within : {n r : ℕ} (cs : Checks) → Within n cs → Answers cs r �
 answer-within [] w a = omega arith
 answer-within ((k, P) ∷ cs) w (inl a) = omega (arith, a .1)
 answer-within ((k, P) ∷ cs) w (inr a) = answer-within cs (w .1) (a .1)
+
+-- what passes the second of two tables is refused by the first, if at all
+pub answer-first : {n r : ℕ} (cs ds : Checks) → Within n cs → Passes ds → Answers (cs ++ ds) r → r ≤ n
+answer-first [] ds w p a = let z = answers-one ds a p in omega arith
+answer-first ((k, P) ∷ cs) ds w p (inl a) = omega (arith, a .1, w .0)
+answer-first ((k, P) ∷ cs) ds w p (inr a) = answer-first cs ds (w .1) p (a .1)
 
 module _ (cs ds : Checks) where
   pub refused-early : (n : ℕ) (old scratch : List ℕ) → Within 7 cs → 0 < n → Answers cs n → RefusedWith (cs ++ ds) n old old scratch scratch

@@ -19,6 +19,10 @@ use Rattle.poly.specs.Values.{table, imagesOf, transform-values, inverse
 use Rattle.poly.specs.Degree.{monomials, length-monomials, monomials-sym, eval-monomials, Novel, to-novel}
 use Rattle.poly.specs.Codeword.{Basis, wordOf, Codeword}
 
+-- A word of 2^k symbols has eight blocks
+pub eighths : (k : ℕ) → 3 ≤ k → 2 ^ k ≡ 8 * 2 ^ (k - 3)
+eighths k h = ap (λ (t : ℕ). 2 ^ t) {x = k} {y = 3 + (k - 3)} (omega arith) ∙ pow-add 2 3 (k - 3)
+
 module _ (K : Ops) (k : ℕ) (b : List ℕ) where
   -- Block r lies on the coset of this element
   abbrev pub blockShift : ℕ → ℕ
@@ -39,9 +43,6 @@ module _ {K : Ops} (F : IsField K) (k : ℕ) (hk : 3 ≤ k) (b : List ℕ) (B : 
   -- The size of a block
   abbrev size : ℕ
   size = 2 ^ (k - 3)
-
-  eight : 2 ^ k ≡ 8 * size
-  eight = ap (λ (t : ℕ). 2 ^ t) {x = k} {y = 3 + (k - 3)} (omega arith) ∙ pow-add 2 3 (k - 3)
 
   fits : k - 3 ≤ length b
   fits = omega (arith, B .count)
@@ -64,7 +65,7 @@ module _ {K : Ops} (F : IsField K) (k : ℕ) (hk : 3 ≤ k) (b : List ℕ) (B : 
   -- A block of the word of p
   block-of-word : (p : List ℕ) (r : ℕ) → r < 8 → part size r (wordOf K k b p) ≡ tab size (λ i. eval K p (blockShift K k b r ⊕ elem K b i))
   block-of-word p r h =
-      ap (λ (n : ℕ). part size r (tab n (λ i. eval K p (elem K b i)))) eight
+      ap (λ (n : ℕ). part size r (tab n (λ i. eval K p (elem K b i)))) (eighths k hk)
       ∙ part-tab 8 size r (λ i. eval K p (elem K b i)) h
       ∙ tab-ext size (λ i. eval K p (elem K b (r * size + i))) (λ i. eval K p (blockShift K k b r ⊕ elem K b i)) (λ i l. ap (eval K p) (block-point r i l))
 
@@ -84,7 +85,7 @@ module _ {K : Ops} (F : IsField K) (k : ℕ) (hk : 3 ≤ k) (b : List ℕ) (B : 
   -- The eight blocks with the coefficients d, one after the other, are the word of its polynomial
   pub word-of-blocks : (d : List ℕ) → length d ≡ size → All Sym d → flat 8 (blockValues K k b d) ≡ wordOf K k b (monomials K b (k - 3) d)
   word-of-blocks d e sd =
-      part-ext 8 size (flat 8 (blockValues K k b d)) (wordOf K k b p) (length-flat 8 size (blockValues K k b d) long) (length-tab (2 ^ k) (λ i. eval K p (elem K b i)) ∙ eight)
+      part-ext 8 size (flat 8 (blockValues K k b d)) (wordOf K k b p) (length-flat 8 size (blockValues K k b d) long) (length-tab (2 ^ k) (λ i. eval K p (elem K b i)) ∙ (eighths k hk))
       (λ r h. part-flat 8 size (blockValues K k b d) r long h
       ∙ transform-values F b (B .elements) nz (table K b) (k - 3) fits (λ i j hi hj. refl) (imagesOf K b (blockShift K k b r)) (blockShift K k b r) (λ j h. refl) (shift-sym r) d e sd
       ∙ tab-ext size (λ i. evalX K b (k - 3) d (blockShift K k b r ⊕ elem K b i)) (λ i. eval K p (blockShift K k b r ⊕ elem K b i))
@@ -99,7 +100,7 @@ module _ {K : Ops} (F : IsField K) (k : ℕ) (hk : 3 ≤ k) (b : List ℕ) (B : 
 
   module _ (w : List ℕ) (lw : length w ≡ 2 ^ k) (sw : All Sym w) where
     long-block : (r : ℕ) → r < 8 → length (part size r w) ≡ size
-    long-block r h = length-part size r w (omega (arith, part-fits {i = r} {n = 8} size h, eight))
+    long-block r h = length-part size r w (omega (arith, part-fits {i = r} {n = 8} size h, (eighths k hk)))
 
     length-blockCoeffs : (r : ℕ) → r < 8 → length (blockCoeffs K k b w r) ≡ size
     length-blockCoeffs r h = length-inverse K (table K b) (k - 3) (imagesOf K b (blockShift K k b r)) (part size r w) (long-block r h)
@@ -112,7 +113,7 @@ module _ {K : Ops} (F : IsField K) (k : ℕ) (hk : 3 ≤ k) (b : List ℕ) (B : 
     -- The word whose blocks all have the coefficients of block 0
     same-blocks : ((r : ℕ) → r < 8 → blockCoeffs K k b w r ≡ blockCoeffs K k b w 0) → w ≡ flat 8 (blockValues K k b (blockCoeffs K k b w 0))
     same-blocks e =
-        part-ext 8 size w (flat 8 (blockValues K k b d)) (lw ∙ eight) (length-flat 8 size (blockValues K k b d) long)
+        part-ext 8 size w (flat 8 (blockValues K k b d)) (lw ∙ (eighths k hk)) (length-flat 8 size (blockValues K k b d) long)
         (λ r h. sym (transform-inverse F (table K b) (k - 3) (imagesOf K b (blockShift K k b r)) (part size r w) (long-block r h))
         ∙ ap (transform K (table K b) (k - 3) (imagesOf K b (blockShift K k b r))) (e r h)
         ∙ sym (part-flat 8 size (blockValues K k b d) r long h))

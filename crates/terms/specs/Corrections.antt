@@ -2,20 +2,17 @@
 -- from what the lent lists held before (old, scratch) to what they hold after (new, left).
 use mathlib.Core.Path.{_≡_, refl, sym, ap, _∙_, subst}
 use mathlib.Core.Logic.{inl, inr, _↔_}
-use mathlib.Core.List.{List, [], _∷_, _++_}
+use mathlib.Core.List.{List, _++_}
 use Prim.Native.Nat.{ℕ, _^_, _≤_}
 use native.Mathlib.Omega.{arith}
 use lib.ListN.{length}
-use Rattle.lists.specs.All.{Below, below-stable}
+use Rattle.lists.specs.All.{Below}
 use Rattle.lists.specs.Answers.{Checks, Answers, Passes, answers-one, not-refused, answers-after, passes-each}
-use Rattle.lists.specs.Calls.{Within}
+use Rattle.lists.specs.Calls.{Within, answer-first}
 use Rattle.lists.specs.Lengths.{lengths-right}
-use Rattle.lists.specs.Tables.{length-tab}
 use Rattle.field.specs.Binary.{degree}
 use Rattle.field.specs.Symbols.{symbols}
 use Rattle.poly.specs.Codeword.{Codeword}
-use Rattle.poly.specs.Poly.{eval}
-use Rattle.poly.specs.Span.{elem}
 use Rattle.space.specs.Setting.{settingChecks}
 use Rattle.space.specs.Sound.{Sound, sound, sound-field, sound-passes, setting-numbered}
 use Rattle.correction.specs.Calls.{lengthChecks, nearChecks, correctChecks, CorrectedWord}
@@ -25,19 +22,14 @@ use Rattle.correction.specs.Near.{radius, Near, one-near}
 use Rattle.correction.specs.Scratch.{correctionScratch}
 use Rattle.correction.specs.declared.Correction.{Correction}
 use Rattle.correction.specs.declared.Correction.the-variants.{Corrected, Refused}
+use Rattle.proximity.specs.Verdict.{codeword-sym}
 use Rattle.codec.specs.Calls as codec
 use Rattle.codec.specs.Calls.{wordChecks, Decoded}
-use Rattle.codec.specs.RoundTrip.{word-passes}
+use Rattle.codec.specs.RoundTrip.{word-passes, length-word}
 use Rattle.codec.specs.declared.Outcome.the-variants as outcome
 use Rattle.prover.specs.Calls as prover
 use Rattle.prover.specs.Calls.{Proven}
 use Rattle.terms.specs.Outcomes.{SameEnd, refused-end}
-
--- what passes the second of two tables is refused by the first, if at all
-answer-first : {n r : ℕ} (cs ds : Checks) → Within n cs → Passes ds → Answers (cs ++ ds) r → r ≤ n
-answer-first [] ds w p a = let z = answers-one ds a p in omega arith
-answer-first ((k, P) ∷ cs) ds w p (inl a) = omega (arith, a .1, w .0)
-answer-first ((k, P) ∷ cs) ds w p (inr a) = answer-first cs ds (w .1) p (a .1)
 
 module _ (m : ℕ) (bs : List ℕ) where
   -- the checks of a call
@@ -72,25 +64,12 @@ module _ (m : ℕ) (bs : List ℕ) where
 
   -- ---- codewords
 
-  module _ (w : List ℕ) (c : Codeword (symbols m) (length bs) bs w) where
-    length-codeword : length w ≡ 2 ^ length bs
-    length-codeword =
-        subst (λ (l : List ℕ). length l ≡ 2 ^ length bs) (sym (c .3)) (length-tab (2 ^ length bs) (λ i. eval (symbols m) (c .0) (elem (symbols m) bs i)))
+  near-itself : (w : List ℕ) → Codeword (symbols m) (length bs) bs w → Near (symbols m) (length bs) bs w w
+  near-itself w c = record { codeword = c; close = omega (arith, differences-self w) }
 
-    near-itself : Near (symbols m) (length bs) bs w w
-    near-itself = record { codeword = c; close = omega (arith, differences-self w) }
-
-  module _ (s : Sound m bs) (w : List ℕ) (c : Codeword (symbols m) (length bs) bs w) where
-    -- it passes checks 9 and 10 of prover and decoder
-    codeword-passes : Passes (wordChecks m bs w)
-    codeword-passes = word-passes m bs s (c .0) w (c .1) (c .2) (c .3)
-
-    codeword-symbols : Below (2 ^ degree m) w
-    codeword-symbols = by codeword-passes
-      where
-        by : Passes (wordChecks m bs w) → Below (2 ^ degree m) w
-        by (inl p) = absurd (omega (arith, p .1))
-        by (inr p) = below-stable (2 ^ degree m) w (p .0)
+  -- it passes checks 9 and 10 of prover and decoder
+  codeword-passes : Sound m bs → (w : List ℕ) → Codeword (symbols m) (length bs) bs w → Passes (wordChecks m bs w)
+  codeword-passes s w c = word-passes m bs s (c .0) w (c .1) (c .2) (c .3)
 
   -- ---- past checks 1 to 7
 
@@ -126,7 +105,7 @@ module _ (m : ℕ) (bs : List ℕ) where
 
     -- A codeword is corrected to itself, with 0 differences.
     pub codeword-itself : Codeword (symbols m) (length bs) bs w → (u : Correction) → CorrectedWord m bs w old new scratch left u → (u ≡ Corrected 0) × (new ≡ w)
-    codeword-itself c u d = let r = near-found (codeword-symbols s w c) w (near-itself w c) u d in (r .0 ∙ ap Corrected (differences-self w), r .1)
+    codeword-itself c u d = let r = near-found (codeword-sym (sound-field s) (length bs) bs w (s .basis) c) w (near-itself w c) u d in (r .0 ∙ ap Corrected (differences-self w), r .1)
       where
         s : Sound m bs
         s = sound m bs (passes-each (settingChecks m bs) (lengthChecks (length bs) (length w) (length old) (length scratch)) (setting-numbered m bs) early .0)
@@ -146,7 +125,7 @@ module _ (m : ℕ) (bs : List ℕ) where
         early =
             answers-after (settingChecks m bs) (lengthChecks (length bs) (length new) (length v) (length t)) 0 (setting-numbered m bs) (sound-passes m bs setting)
             (lengths-right (length new) (2 ^ length bs) (length v) (2 ^ length bs) (length t) (correctionScratch (length bs))
-            (length-codeword new (d .right .near .codeword)) lv lt)
+            (length-word m bs setting (d .right .near .codeword .0) new (d .right .near .codeword .3)) lv lt)
 
     -- a call that makes checks 1 to 7, then 9 and 10, gives none above 7
     up-to-seven : (cs : Checks) → Within 7 cs → (r : ℕ) → Answers (cs ++ wordChecks m bs new) r → r ≤ 7

@@ -2,10 +2,10 @@
 use mathlib.Core.Path.{_≡_, refl, sym, ap, ap₂, _∙_, subst}
 use mathlib.Core.List.{List, map}
 use Prim.Native.Nat.{ℕ, _+_, _-_, _*_, _^_, _≤_, _<_}
-use native.Mathlib.Nat.{le-refl}
+use native.Mathlib.Nat.{le-refl, mul-comm}
 use native.Mathlib.Omega.{arith}
 use lib.ListN.{length, getD, drop, length-drop, length-map, List·getD-map}
-use lib.Pow.{pow-pos, pow-add}
+use lib.Pow.{pow-pos}
 use lib.Seq.{ext-getD, getD-drop}
 use Rattle.lists.specs.All.{All, Below, All-of}
 use Rattle.lists.specs.Tables.{part, part-flat}
@@ -21,7 +21,7 @@ use Rattle.poly.specs.Transform.{transform, inverse, transform-ext, inverse-ext
 use Rattle.poly.specs.Values.{table, imagesOf}
 use Rattle.poly.specs.Degree.{monomials}
 use Rattle.poly.specs.Codeword.{Basis, wordOf}
-use Rattle.poly.specs.Blocks.{blockShift, blockValues, word-of-blocks}
+use Rattle.poly.specs.Blocks.{eighths, blockShift, blockValues, word-of-blocks}
 use Rattle.space.specs.Images.{Images}
 use Rattle.transform.specs.Lanes.{imageAt, laneShift, InLanes, Evaluated, Interpolated}
 use Rattle.transform.specs.Spans.{Zeros, imageList, SpanLanes}
@@ -30,7 +30,7 @@ use Rattle.transform.specs.Blocks.{InBlocks, block, blockImage, BlocksIn
 use Rattle.transform.proofs.SpanLists.{length-images, images-at}
 
 pub eight : (k : ℕ) → 3 ≤ k → 2 ^ k ≡ 2 ^ (k - 3) * 8
-eight k h = ap (λ (t : ℕ). 2 ^ t) {x = k} {y = k - 3 + 3} (omega arith) ∙ pow-add 2 (k - 3) 3
+eight k h = eighths k h ∙ mul-comm 8 (2 ^ (k - 3))
 
 module _ (q : ℕ) (irr : Irreducible q) (images : List ℕ) where
   abbrev K : Ops

@@ -2,21 +2,17 @@
 use mathlib.Core.Path.{_≡_, sym, ap, ap₂, _∙_}
 use mathlib.Core.List.{List, _++_}
 use Prim.Native.Nat.{ℕ, _+_, _-_, _*_, _/_, _^_, _≤_, _<_}
-use native.Mathlib.Nat.{zero-mul, mul-comm}
+use native.Mathlib.Nat.{zero-mul}
 use native.Mathlib.Omega.{arith}
 use lib.ListN.{length, take, drop, length-drop, take-append-drop}
 use lib.Seq.{length-take-le}
 use Rattle.lists.specs.Tables.{part, insert}
-use Rattle.transform.proofs.BlockLaws.{eight}
+use Rattle.poly.specs.Blocks.{eighths}
 use Rattle.proximity.specs.Dim.{half, rowDim, colDim, S}
 use Rattle.proximity.specs.Layout.{length-block, length-seven}
 use Rattle.proximity.specs.Proof.{slot, row}
 use Rattle.proximity.specs.Tree.{S-node}
 use Rattle.verifier.specs.Parts.{Lent, joined}
-
--- 2^k as eight eighths
-pub eighths : (k : ℕ) → 3 ≤ k → 2 ^ k ≡ 8 * 2 ^ (k - 3)
-eighths k h = eight k h ∙ mul-comm (2 ^ (k - 3)) 8
 
 -- a plain word: its first block and the others
 module _ (k : ℕ) (h : 3 ≤ k) (w : List ℕ) (lw : length w ≡ 2 ^ k) (near far : List ℕ) (en : near ≡ take (length w / 8) w) (ef : far ≡ drop (length w / 8) w) where

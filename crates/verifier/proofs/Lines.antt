@@ -20,7 +20,7 @@ use Rattle.verifier.specs.OnCoin.{on-line}
 use Rattle.verifier.specs.Parts.{InSpace, Lent, joined}
 use Rattle.verifier.specs.declared.Verdict.{Verdict}
 use Rattle.verifier.proofs.Laws.{length-joined}
-use Rattle.verifier.proofs.Joins.{eighths}
+use Rattle.poly.specs.Blocks.{eighths}
 
 -- the answer on a word, whatever basis the table is of
 abbrev pub Claim : Field → ℕ → List ℕ → List ℕ → List ℕ → ℕ → Verdict → Type 0

@@ -7,9 +7,9 @@ use lib.ListN.{length, take}
 use lib.Pow.{pow-mono}
 use lib.Seq.{length-take-le}
 use borrow.Author.Needs.{needs}
+use Rattle.poly.specs.Blocks.{eighths}
 use Rattle.space.specs.Usable.{usable}
 use Rattle.space.specs.Sizes.{maxDim, maxCoefficients, maxWord}
-use Rattle.correction.specs.Near.{eight}
 use Rattle.correction.specs.Scratch.{scratchWords}
 use Rattle.correction.proofs.NearestLaws.{length-p, symbols-p, nearest-found, nearest-none}
 use Rattle.correction.proofs.nearest.find_nearest.Statement.{statement}
@@ -42,13 +42,13 @@ module _ (c : tie.After-candidate) where
   small = omega (arith, largest)
 
   eights : n ≡ 8 * (n / 8)
-  eights = omega (arith, start .pre .0 .whole, eight (start .args .s .space .k) (usable (start .pre .0 .ready) .low))
+  eights = omega (arith, start .pre .0 .whole, eighths (start .args .s .space .k) (usable (start .pre .0 .ready) .low))
 
 taken-requires : tie.Need-taken-requires
 taken-requires c κs =
     let a = c .before .before .before in
     let g = start a .pre .0 in
-    (omega (arith, a .candidate .ensures .fits, g .whole, eight (start a .args .s .space .k) (usable (g .ready) .low)), small a)
+    (omega (arith, a .candidate .ensures .fits, g .whole, eighths (start a .args .s .space .k) (usable (g .ready) .low)), small a)
 
 -- ---- once its coefficients are taken
 module _ (c : tie.After-taken) where

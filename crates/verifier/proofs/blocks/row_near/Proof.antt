@@ -8,7 +8,7 @@ use Rattle.lists.specs.Tables.{part-fits}
 use Rattle.proximity.specs.Dim.{half}
 use Rattle.proximity.specs.Subspaces.{pow-rows}
 use Rattle.verifier.specs.Parts.{joined}
-use Rattle.verifier.proofs.Joins.{eighths}
+use Rattle.poly.specs.Blocks.{eighths}
 use Rattle.verifier.proofs.Laws.{aligned}
 use borrow.Author.Needs.{needs}
 use Rattle.verifier.proofs.blocks.row_near.Statement.{statement}

@@ -9,7 +9,7 @@ use Rattle.proximity.specs.Reads.{Inside, cell-inside, read-cell}
 use Rattle.proximity.specs.Tree.{S-node}
 use Rattle.proximity.specs.Verifier.{readAt}
 use Rattle.verifier.specs.Parts.{joined}
-use Rattle.verifier.proofs.Joins.{eighths}
+use Rattle.poly.specs.Blocks.{eighths}
 use Rattle.verifier.proofs.Laws.{length-joined}
 use borrow.Author.Needs.{needs}
 use Rattle.verifier.proofs.blocks.row_symbol.Statement.{statement}

@@ -16,7 +16,7 @@ use Rattle.space.specs.Images.{Images}
 use Rattle.transform.specs.Slices.{Transposed}
 use Rattle.verifier.specs.Parts.{noSymbols}
 use Rattle.field.specs.Binary.{degree}
-use Rattle.verifier.proofs.Joins.{eighths}
+use Rattle.poly.specs.Blocks.{eighths}
 use Rattle.verifier.proofs.Laws.{one-shifted}
 use Rattle.verifier.proofs.Short.{word-below, read-below}
 use borrow.Author.Needs.{needs}
