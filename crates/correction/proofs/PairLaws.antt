@@ -12,7 +12,7 @@ use Rattle.lists.specs.Stretch.{Apart, stretch, length-stretch, getD-stretch}
 use Rattle.field.specs.Binary.{Irreducible}
 use Rattle.field.specs.Laws.{Ops, IsField, ⊕-0, ⊗-0, ⊗-1}
 use Rattle.field.specs.Symbols.{symbols, symbols-field}
-use Rattle.correction.specs.Coefficients.{coeff, Low, shift, Mixed, low-length, coeff-shift-below, coeff-shift-at}
+use Rattle.correction.specs.Coefficients.{coeff, Low, timesPower, Mixed, low-length, coeff-times-power-below, coeff-times-power-at}
 use Rattle.field.specs.declared.Field.{Field}
 use Rattle.correction.specs.Pairs.{polyAt, AddedPair, Places, Cancels}
 use Rattle.correction.specs.Rows.{Added}
@@ -64,19 +64,19 @@ module _ (q : ℕ) (irr : Irreducible q) (c from to s m n : ℕ) (old new : List
       kept : i < 2 * n → (to + i < to + s) ⊎ (to + s + m ≤ to + i) → coeff (polyAt n to new) i ≡ coeff (polyAt n to old) i
       kept h o = coeff-poly n to new fn i h ∙ g .outside (to + i) o ∙ sym (coeff-poly n to old ft i h)
 
-      past : s + m ≤ i → coeff (shift s (polyAt n from old)) i ≡ 0
-      past h = coeff-shift-at s (polyAt n from old) (i - s) i (omega arith) ∙ low (i - s) (omega arith)
+      past : s + m ≤ i → coeff (timesPower s (polyAt n from old)) i ≡ 0
+      past h = coeff-times-power-at s (polyAt n from old) (i - s) i (omega arith) ∙ low (i - s) (omega arith)
 
-      by : Dec (i < 2 * n) → Dec (i < s) → Dec (i < s + m) → coeff (polyAt n to new) i ≡ coeff (polyAt n to old) i ⊕ c ⊗ coeff (shift s (polyAt n from old)) i
+      by : Dec (i < 2 * n) → Dec (i < s) → Dec (i < s + m) → coeff (polyAt n to new) i ≡ coeff (polyAt n to old) i ⊕ c ⊗ coeff (timesPower s (polyAt n from old)) i
       by (no h) b d =
           same-step _ _ _ (past (omega arith)) (poly-low n to new fn i (omega arith) ∙ sym (poly-low n to old ft i (omega arith)))
-      by (yes h) (yes b) d = same-step _ _ _ (coeff-shift-below s (polyAt n from old) i b) (kept h (inl (omega arith)))
+      by (yes h) (yes b) d = same-step _ _ _ (coeff-times-power-below s (polyAt n from old) i b) (kept h (inl (omega arith)))
       by (yes h) (no b) (no d) = same-step _ _ _ (past (omega arith)) (kept h (inr (omega arith)))
       by (yes h) (no b) (yes d) =
           let place : to + s + (i - s) ≡ to + i = omega arith in
           coeff-poly n to new fn i h ∙ ap (λ (t : ℕ). getD new t 0) (sym place) ∙ g .inside (i - s) (omega arith)
           ∙ ap₂ (λ (u v : ℕ). u ⊕ c ⊗ v) (ap (λ (t : ℕ). getD old t 0) place ∙ sym (coeff-poly n to old ft i h))
-          (sym (coeff-poly n from old ff (i - s) (omega arith)) ∙ sym (coeff-shift-at s (polyAt n from old) (i - s) i (omega arith)))
+          (sym (coeff-poly n from old ff (i - s) (omega arith)) ∙ sym (coeff-times-power-at s (polyAt n from old) (i - s) i (omega arith)))
 
 -- ---- both polynomials of a pair
 

@@ -10,7 +10,7 @@ use lib.Seq.{take-suc, take-all, length-take-le}
 use Rattle.lists.specs.All.{All}
 use Rattle.field.specs.Laws.{Ops, IsField, sums, ⊗-1}
 use Rattle.poly.specs.Poly.{scaleP, mulP}
-use Rattle.correction.specs.Coefficients.{coeff, Low, shift, low-mulP, coeff-scaleP, coeff-shift-at, coeff-shift-below, mulP-snoc, coeff-sym}
+use Rattle.correction.specs.Coefficients.{coeff, Low, timesPower, low-mulP, coeff-scaleP, coeff-times-power-at, coeff-times-power-below, mulP-snoc, coeff-sym}
 
 -- the front of s is the product of u and the first j coefficients of p, and the others stand behind it
 pub record Dividing (K : Ops) (e d : ℕ) (p u : List ℕ) (j : ℕ) (s : List ℕ) : Type 0 where
@@ -48,10 +48,10 @@ module _ {K : Ops} (F : IsField K) where
         }
 
     module _ (v : ℕ) (unit : coeff u e ⊗ v ≡ 1) (j : ℕ) (hj : j < d) (s : List ℕ) (h : Dividing K e d p u (suc j) s) where
-      next : (i : ℕ) → i < suc j + e → coeff s i ≡ coeff (mulP K (take j p) u) i ⊕ coeff (shift j (scaleP K (coeff p j) u)) i
+      next : (i : ℕ) → i < suc j + e → coeff s i ≡ coeff (mulP K (take j p) u) i ⊕ coeff (timesPower j (scaleP K (coeff p j) u)) i
       next i l =
           h .front i l ∙ ap (λ (t : List ℕ). coeff (mulP K t u) i) (take-suc p j 0 (omega arith)) ∙ mulP-snoc F (take j p) u (coeff p j) i
-          ∙ ap (λ (t : ℕ). coeff (mulP K (take j p) u) i ⊕ coeff (shift t (scaleP K (coeff p j) u)) i) (length-take-le j p (omega arith))
+          ∙ ap (λ (t : ℕ). coeff (mulP K (take j p) u) i ⊕ coeff (timesPower t (scaleP K (coeff p j) u)) i) (length-take-le j p (omega arith))
 
       -- the coefficient that is found
       pub right : coeff s (j + e) ⊗ v ≡ coeff p j
@@ -59,7 +59,7 @@ module _ {K : Ops} (F : IsField K) where
           last-step (coeff p j) (coeff u e) v (coeff s (j + e)) (coeff-sym F p j sp) unit
           (next (j + e) (omega arith)
           ∙ ap₂ _⊕_ (low-mulP F (take j p) u (suc e) low (j + e) (omega (arith, length-take-le j p (omega arith))))
-          (coeff-shift-at j (scaleP K (coeff p j) u) e (j + e) refl ∙ coeff-scaleP F (coeff p j) u e))
+          (coeff-times-power-at j (scaleP K (coeff p j) u) e (j + e) refl ∙ coeff-scaleP F (coeff p j) u e))
 
       pub dividing-next : (s′ : List ℕ) → Step K e j (coeff s (j + e) ⊗ v) u s s′ → Dividing K e d p u j s′
       dividing-next s′ g =
@@ -69,13 +69,13 @@ module _ {K : Ops} (F : IsField K) where
           }
         where
           by : (i : ℕ) → i < j + e → Dec (i < j) → coeff s′ i ≡ coeff (mulP K (take j p) u) i
-          by i l (yes k) = g .kept i (inl k) ∙ skip-step _ _ _ (coeff-shift-below j (scaleP K (coeff p j) u) i k) (next i (omega arith))
+          by i l (yes k) = g .kept i (inl k) ∙ skip-step _ _ _ (coeff-times-power-below j (scaleP K (coeff p j) u) i k) (next i (omega arith))
           by i l (no k) =
               let place : j + (i - j) ≡ i = omega arith in
               ap (coeff s′) (sym place) ∙ g .taken (i - j) (omega arith)
               ∙ ap₂ (λ (t c : ℕ). coeff s t ⊕ c ⊗ coeff u (i - j)) place right
               ∙ cancel-step _ _ _ (next i (omega arith)
-              ∙ ap (λ (t : ℕ). coeff (mulP K (take j p) u) i ⊕ t) (coeff-shift-at j (scaleP K (coeff p j) u) (i - j) i (sym place) ∙ coeff-scaleP F (coeff p j) u (i - j)))
+              ∙ ap (λ (t : ℕ). coeff (mulP K (take j p) u) i ⊕ t) (coeff-times-power-at j (scaleP K (coeff p j) u) (i - j) i (sym place) ∙ coeff-scaleP F (coeff p j) u (i - j)))
 
           at : (i : ℕ) → j ≤ i → i < d → Dec (i ≡ j) → coeff s′ (i + e) ≡ coeff p i
           at i l k (yes q) = ap (λ (t : ℕ). coeff s′ (t + e)) q ∙ g .left ∙ right ∙ ap (coeff p) (sym q)

@@ -9,7 +9,7 @@ use lib.ListN.{length}
 use Rattle.lists.specs.All.{All}
 use Rattle.field.specs.Laws.{Ops, IsField, ring, ⊗-0, ⊗-1, ⊗-zero}
 use Rattle.poly.specs.Poly.{Distinct, eval, addP, mulP, eval-addP, eval-mulP, addP-sym, mulP-sym}
-use Rattle.correction.specs.Coefficients.{coeff, Low, shift, Mixed, low-le, low-less, low-shift, low-addP, low-mulP, low-mixed, mixed-left, mixed-right, eval-mixed, eval-shift, coeff-shift-at, coeff-equal, coeff-sym}
+use Rattle.correction.specs.Coefficients.{coeff, Low, timesPower, Mixed, low-le, low-less, low-times-power, low-addP, low-mulP, low-mixed, mixed-left, mixed-right, eval-mixed, eval-times-power, coeff-times-power-at, coeff-equal, coeff-sym}
 use Rattle.correction.specs.Differences.{differing, differing-le, root-low}
 
 module _ (K : Ops) (n : ℕ) (x w : ℕ → ℕ) where
@@ -74,8 +74,8 @@ module _ {K : Ops} (F : IsField K) (n : ℕ) (x w : ℕ → ℕ) where
 
   hits-mixed : (m c : ℕ) (r v s u r′ v′ : List ℕ) → Hits K n x w r v → Hits K n x w s u → Mixed K m c r s r′ → Mixed K m c v u v′ → Hits K n x w r′ v′
   hits-mixed m c r v s u r′ v′ h g er ev j l =
-      hits-step (w j) c (eval K r (x j)) (eval K (shift m s) (x j)) (eval K r′ (x j)) (eval K v′ (x j)) (eval K v (x j)) (eval K (shift m u) (x j))
-      (h j l) (eval-shift F m s u (x j) (w j) (g j l)) (eval-mixed F m c r s r′ er (x j)) (eval-mixed F m c v u v′ ev (x j))
+      hits-step (w j) c (eval K r (x j)) (eval K (timesPower m s) (x j)) (eval K r′ (x j)) (eval K v′ (x j)) (eval K v (x j)) (eval K (timesPower m u) (x j))
+      (h j l) (eval-times-power F m s u (x j) (w j) (g j l)) (eval-mixed F m c r s r′ er (x j)) (eval-mixed F m c v u v′ ev (x j))
 
   module _ (a b : ℕ) (r v s u : List ℕ) (h : Remainders K n x w (suc a) b r v s u) where
     -- the coefficient of number a is 0
@@ -109,16 +109,16 @@ module _ {K : Ops} (F : IsField K) (n : ℕ) (x w : ℕ → ℕ) where
           last-hits = h .last-hits;
           next-low =
               low-less a s′
-              (low-mixed F (a - b) c s r s′ es (suc a) (h .next-low) (low-le (a - b + suc b) (suc a) (shift (a - b) r) (low-shift (a - b) (suc b) r (h .last-low)) (omega arith)))
-              (es a ∙ ap (λ (t : ℕ). coeff s a ⊕ c ⊗ t) (coeff-shift-at (a - b) r b a (omega arith)) ∙ e);
+              (low-mixed F (a - b) c s r s′ es (suc a) (h .next-low) (low-le (a - b + suc b) (suc a) (timesPower (a - b) r) (low-times-power (a - b) (suc b) r (h .last-low)) (omega arith)))
+              (es a ∙ ap (λ (t : ℕ). coeff s a ⊕ c ⊗ t) (coeff-times-power-at (a - b) r b a (omega arith)) ∙ e);
           next-factor =
-              low-mixed F (a - b) c u v u′ eu (suc (n - b)) (h .next-factor) (low-le (a - b + suc (n - suc a)) (suc (n - b)) (shift (a - b) v) low (omega (arith, h .small)));
+              low-mixed F (a - b) c u v u′ eu (suc (n - b)) (h .next-factor) (low-le (a - b + suc (n - suc a)) (suc (n - b)) (timesPower (a - b) v) low (omega (arith, h .small)));
           next-lead = λ z. h .next-lead (sym (mixed-left F (a - b) c u v u′ eu (n - b) (low (n - b) (omega (arith, h .small)))) ∙ z);
           next-hits = hits-mixed (a - b) c s u r v s′ u′ (h .next-hits) (h .last-hits) es eu;
         }
       where
-        low : Low (a - b + suc (n - suc a)) (shift (a - b) v)
-        low = low-shift (a - b) (suc (n - suc a)) v (h .last-factor)
+        low : Low (a - b + suc (n - suc a)) (timesPower (a - b) v)
+        low = low-times-power (a - b) (suc (n - suc a)) v (h .last-factor)
 
     -- r is the longer one: its leading coefficient goes, and s is the last remainder
     pub turn : (c : ℕ) (r′ v′ : List ℕ) → a < b → All Sym r′ → All Sym v′ → Sym c → coeff s a ≢ 0 → coeff r b ⊕ c ⊗ coeff s a ≡ 0
@@ -134,11 +134,11 @@ module _ {K : Ops} (F : IsField K) (n : ℕ) (x w : ℕ → ℕ) where
           last-hits = h .next-hits;
           next-low =
               low-less b r′
-              (low-mixed F (b - a) c r s r′ er (suc b) (h .last-low) (low-le (b - a + suc a) (suc b) (shift (b - a) s) (low-shift (b - a) (suc a) s (h .next-low)) (omega arith)))
-              (er b ∙ ap (λ (t : ℕ). coeff r b ⊕ c ⊗ t) (coeff-shift-at (b - a) s a b (omega arith)) ∙ e);
+              (low-mixed F (b - a) c r s r′ er (suc b) (h .last-low) (low-le (b - a + suc a) (suc b) (timesPower (b - a) s) (low-times-power (b - a) (suc a) s (h .next-low)) (omega arith)))
+              (er b ∙ ap (λ (t : ℕ). coeff r b ⊕ c ⊗ t) (coeff-times-power-at (b - a) s a b (omega arith)) ∙ e);
           next-factor =
               low-mixed F (b - a) c v u v′ ev (suc (n - a)) (low-le (suc (n - suc a)) (suc (n - a)) v (h .last-factor) (omega arith))
-              (low-le (b - a + suc (n - b)) (suc (n - a)) (shift (b - a) u) (low-shift (b - a) (suc (n - b)) u (h .next-factor)) (omega (arith, h .large)));
+              (low-le (b - a + suc (n - b)) (suc (n - a)) (timesPower (b - a) u) (low-times-power (b - a) (suc (n - b)) u (h .next-factor)) (omega (arith, h .large)));
           next-lead = λ z. h .next-lead (⊗-zero F c (coeff u (n - b)) sc (coeff-sym F u (n - b) (h .symbols .3)) nc (sym top ∙ z));
           next-hits = hits-mixed (b - a) c r v s u r′ v′ (h .last-hits) (h .next-hits) er ev;
         }
@@ -149,7 +149,7 @@ module _ {K : Ops} (F : IsField K) (n : ℕ) (x w : ℕ → ℕ) where
         top : coeff v′ (n - a) ≡ c ⊗ coeff u (n - b)
         top =
             mixed-right F (b - a) c v u v′ ev (n - a) (h .last-factor (n - a) (omega (arith, h .small)))
-            ∙ ap (λ (t : ℕ). c ⊗ t) (coeff-shift-at (b - a) u (n - b) (n - a) (omega (arith, h .large)))
+            ∙ ap (λ (t : ℕ). c ⊗ t) (coeff-times-power-at (b - a) u (n - b) (n - a) (omega (arith, h .large)))
 
   -- ---- the last step: a remainder of a degree below m whose factor has a degree of at most m - d
 
