@@ -1,7 +1,7 @@
 -- Coefficients of powers of x, and those of the products of W_j over the one bits j of a coefficient's number.
 use mathlib.Core.Path.{_≡_}
 use mathlib.Core.List.{List}
-use Prim.Native.Nat.{ℕ, zero, suc, _+_, _*_, _/_, _^_, _≤_, _<_, _-_}
+use Prim.Native.Nat.{ℕ, zero, suc, _+_, _*_, _/_, _^_, _≤_, _<_}
 use lib.ListN.{length, getD, take, drop}
 use Rattle.space.specs.Sizes.{maxDim, maxWord}
 use Rattle.lists.specs.All.{All, Below, IsZero}

@@ -1,7 +1,7 @@
 -- Coefficients of powers of x, and those over the novel basis, in a list whose first 2^m numbers are given and whose next 2^m are the answer.
 use mathlib.Core.Path.{_≡_}
 use mathlib.Core.List.{List, zipWith}
-use Prim.Native.Nat.{ℕ, _^_, _≤_, _<_, _-_}
+use Prim.Native.Nat.{ℕ, _^_, _≤_, _<_}
 use lib.ListN.{length, getD, take}
 use Rattle.space.specs.Sizes.{maxDim}
 use Rattle.lists.specs.All.{All, Below, IsZero}

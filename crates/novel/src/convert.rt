@@ -5,7 +5,7 @@ use field::Field;
 use space::MAX;
 use space::MAX_WORD;
 ghost use mathlib.Core.Path.{_≡_};
-ghost use Prim.Native.Nat.{_+_, _/_, _^_, _≤_, _<_, _-_};
+ghost use Prim.Native.Nat.{_+_, _/_, _^_, _≤_, _<_};
 ghost use lib.ListN.{length};
 ghost use Rattle.space.specs.Sizes.{maxDim};
 ghost use Rattle.lists.specs.All.{Below};
