@@ -19,14 +19,14 @@ use Rattle.space.specs.Usable.{usable, ready-field, ready-basis}
 use Rattle.correction.specs.Coefficients.{coeff}
 use Rattle.correction.specs.Near.{radius, NearPoly}
 use Rattle.correction.specs.Candidate.{Prepared, Found}
-use Rattle.correction.specs.Pairs.{polyAt, Pairs, Stepped}
+use Rattle.correction.specs.Pairs.{polyAt, Pairs, Advanced}
 use Rattle.correction.specs.Quotient.{Divides, FactorOf, Divided}
 use Rattle.correction.specs.Remainders.{multiple}
 use Rattle.correction.specs.Start.{InSetting}
 use Rattle.correction.proofs.PairLaws.{coeff-poly}
 
 module _ {s : Setting} {word : List ℕ} (g : InSetting s word) (old first : List ℕ) (pr : Prepared s word old first) (a b at : ℕ) (work : List ℕ)
-    (st : Stepped (s .field) (length word) (length word) (length word) (4 * length word) first a b at work)
+    (st : Advanced (s .field) (length word) (length word) (length word) (4 * length word) first a b at work)
     (la : a ≤ length word - radius (length word)) (lb : length word - radius (length word) ≤ b) where
   abbrev n : ℕ
   n = length word

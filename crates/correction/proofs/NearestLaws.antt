@@ -21,7 +21,7 @@ use Rattle.space.specs.Usable.{usable, ready-basis}
 use Rattle.transform.specs.Blocks.{Tested}
 use Rattle.transform.specs.Slices.{Transposed}
 use Rattle.evaluation.specs.Lanes.{inOrder}
-use Rattle.evaluation.specs.Words.{Taken, InLanes}
+use Rattle.evaluation.specs.Words.{Taken, WordLanes}
 use Rattle.evaluation.proofs.WordLaws.{lanes-transposed, lanes-in-order}
 use Rattle.correction.specs.Candidate.{Found}
 use Rattle.correction.specs.Differences.{differences, differences-self}
@@ -65,7 +65,7 @@ module _ {s : Setting} {word : List ℕ} (g : InSetting s word) (old work : List
       ap (λ (u : List ℕ). getD u i 0) (t .right) ∙ getD-stretch (length word / 8) at work i (omega (arith, eighth)) ∙ f .right bs y r near i m)
 
   -- its word stands in lanes, and so many differences are counted
-  module _ (scratch : List ℕ) (l : InLanes s p scratch) (count : ℕ) (e : count ≡ differences word (inOrder (length word / 8) (take (length word) scratch))) where
+  module _ (scratch : List ℕ) (l : WordLanes s p scratch) (count : ℕ) (e : count ≡ differences word (inOrder (length word / 8) (take (length word) scratch))) where
     module _ (bs : List ℕ) (y : Ready q bs s) where
       abbrev K : Ops
       K = symbols q

@@ -11,7 +11,7 @@ use Rattle.field.specs.Symbols.{symbols, symbols-field}
 use Rattle.field.specs.declared.Field.{Field}
 use Rattle.correction.specs.Coefficients.{coeff, low-le}
 use Rattle.correction.specs.Remainders.{Remainders, skip, reduce, turn}
-use Rattle.correction.specs.Pairs.{polyAt, Pairs, Held, Stepped, Places, Cancels, Cancelled}
+use Rattle.correction.specs.Pairs.{polyAt, Pairs, Held, Advanced, Places, Cancels, Cancelled}
 use Rattle.correction.proofs.PairLaws.{coeff-poly, poly-symbols, from-kept, factor-kept, to-mixed, factor-mixed, number-kept}
 
 module _ {f : Field} {n k b at : ℕ} {work : List ℕ} (h : Held f n k b at work) (pos : 0 < k) where
@@ -89,7 +89,7 @@ module _ {f : Field} {n k b at : ℕ} {work : List ℕ} (h : Held f n k b at wor
 
   -- ---- the coefficient is 0
 
-  pub step-skip : getD work (next + a) 0 ≡ 0 → Stepped f n k b at work a b at work
+  pub step-skip : getD work (next + a) 0 ≡ 0 → Advanced f n k b at work a b at work
   step-skip z =
       record {
         held =
@@ -161,7 +161,7 @@ module _ {f : Field} {n k b at : ℕ} {work : List ℕ} (h : Held f n k b at wor
         subst (λ (l : List ℕ). Remainders K n x w a b l (polyAt n (at + 4 * n) new) (polyAt n next new) (polyAt n (next + 4 * n) new)) (sym kept)
         (subst (λ (l : List ℕ). Remainders K n x w a b (polyAt n at work) l (polyAt n next new) (polyAt n (next + 4 * n) new)) (sym kept-factor) r)
 
-    pub step-reduce : Stepped f n k b at work a b at new
+    pub step-reduce : Advanced f n k b at work a b at new
     step-reduce =
         record {
           held =
@@ -234,7 +234,7 @@ module _ {f : Field} {n k b at : ℕ} {work : List ℕ} (h : Held f n k b at wor
         (subst (λ (l : List ℕ). Remainders K n x w b a (polyAt n next work) l (polyAt n at new) (polyAt n (at + 4 * n) new))
         (sym (factor-kept q (h .irreducible) n d next at (b - a) (a + 1) (n - b + 1) work new back (h .room) tr tv (g .added))) r))
 
-    pub step-turn : Stepped f n k b at work b a next new
+    pub step-turn : Advanced f n k b at work b a next new
     step-turn =
         record {
           held =
@@ -254,9 +254,9 @@ module _ {f : Field} {n k b at : ℕ} {work : List ℕ} (h : Held f n k b at wor
 
 -- ---- steps one after the other
 
-pub stepped-none : {f : Field} {n a b at : ℕ} {work : List ℕ} → Held f n a b at work → Stepped f n a b at work a b at work
-stepped-none h = record { held = h; kept = refl; pairs = λ x w p. p }
+pub advanced-none : {f : Field} {n a b at : ℕ} {work : List ℕ} → Held f n a b at work → Advanced f n a b at work a b at work
+advanced-none h = record { held = h; kept = refl; pairs = λ x w p. p }
 
-pub stepped-then : {f : Field} {n a b at a′ b′ at′ a″ b″ at″ : ℕ} {work work′ work″ : List ℕ} → Stepped f n a b at work a′ b′ at′ work′ → Stepped f n a′ b′ at′ work′ a″ b″ at″ work″
-    → Stepped f n a b at work a″ b″ at″ work″
-stepped-then s t = record { held = t .held; kept = t .kept ∙ s .kept; pairs = λ x w p. t .pairs x w (s .pairs x w p) }
+pub advanced-then : {f : Field} {n a b at a′ b′ at′ a″ b″ at″ : ℕ} {work work′ work″ : List ℕ} → Advanced f n a b at work a′ b′ at′ work′ → Advanced f n a′ b′ at′ work′ a″ b″ at″ work″
+    → Advanced f n a b at work a″ b″ at″ work″
+advanced-then s t = record { held = t .held; kept = t .kept ∙ s .kept; pairs = λ x w p. t .pairs x w (s .pairs x w p) }

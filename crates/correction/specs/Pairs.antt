@@ -33,8 +33,8 @@ pub record Held (f : Field) (n a b at : ℕ) (work : List ℕ) : Type 0 where
   pub below : Below (2 ^ degree (f .modulus)) work
   pub lead : getD work (at + b) 0 ≢ 0
 
--- steps from one state to another: remainders stay remainders, and the degree b stays m or more while a is above m
-pub record Stepped (f : Field) (n a b at : ℕ) (work : List ℕ) (a′ b′ at′ : ℕ) (work′ : List ℕ) : Type 0 where
+-- from one state to another: remainders stay remainders
+pub record Advanced (f : Field) (n a b at : ℕ) (work : List ℕ) (a′ b′ at′ : ℕ) (work′ : List ℕ) : Type 0 where
   pub held : Held f n a′ b′ at′ work′
   pub kept : length work′ ≡ length work
   pub pairs : (x w : ℕ → ℕ) → Pairs (f .modulus) n x w a b at work → Pairs (f .modulus) n x w a′ b′ at′ work′

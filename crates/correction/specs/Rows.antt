@@ -4,7 +4,7 @@ use mathlib.Core.Logic.{_⊎_}
 use mathlib.Core.List.{List}
 use Prim.Native.Nat.{ℕ, _+_, _≤_, _<_, _^_}
 use lib.ListN.{length, getD}
-use Rattle.lists.specs.All.{All, Below, IsZero}
+use Rattle.lists.specs.All.{Below}
 use Rattle.field.specs.Binary.{_⊕_, degree, product}
 
 -- c times the numbers from `from` on is added to the n numbers from `to` on
@@ -17,8 +17,3 @@ pub record Added (q c from to n : ℕ) (old new : List ℕ) : Type 0 where
 -- the numbers of one list product
 abbrev pub partSize : ℕ
 partSize = 256
-
--- a list of zeros
-pub record Zeros (n : ℕ) (xs : List ℕ) : Type 0 where
-  pub count : length xs ≡ n
-  pub zero : All IsZero xs

@@ -1,13 +1,13 @@
-// The nearest codeword of a word within half the distance of the code (mending, in the papers): Gao's
-// decoder, whose cost is proportional to the length and to the number of differences.
-pub mod candidate;
-pub mod division;
+// The codeword that is near a word, within half the distance of the code (mending, in the papers): Gao's
+// decoder, whose cost grows with the number of differences.
+mod candidate;
+mod division;
 pub mod nearest;
-pub mod remainders;
-pub mod rows;
-pub mod start;
+mod remainders;
+mod rows;
+mod start;
 
-use nearest::Counted;
+use nearest::NearestAnswer;
 use nearest::correct_with;
 use novel::convert::power;
 use transform::slices::clear;
@@ -58,7 +58,7 @@ fn early_refusal(refusal: u8, k: usize, word: usize, corrected: usize, scratch: 
 }
 
 // The answer by its numbers, with the scratch cleared.
-fn finish(r: Counted, scratch: &mut [u16]) -> Correction
+fn finish(r: NearestAnswer, scratch: &mut [u16]) -> Correction
     ensures { λ a. ⌜ (a ≡ correctionOf (r .refusal) (r .count)) × (now (scratch .exit) ≡ zeros (length (now (scratch .entry)))) ⌝ }
 {
     clear(scratch);

@@ -18,7 +18,7 @@ ghost use Rattle.correction.specs.Nearest.{NearestWith, CorrectedWith, I
 ghost use Rattle.correction.specs.Scratch.{scratchWords};
 
 // 0 and the number of differences, or the number of a refusal.
-pub struct Counted {
+pub struct NearestAnswer {
     pub refusal: u8,
     pub count: usize,
 }
@@ -40,7 +40,12 @@ pub fn differing(word: &[u16], size: usize, lanes: &[u16]) -> usize
 }
 
 // Check 13, then the codeword.
-fn find_nearest(s: Setting, word: &[u16], corrected: &mut [u16], scratch: &mut [u16]) -> Counted
+fn find_nearest(
+    s: Setting,
+    word: &[u16],
+    corrected: &mut [u16],
+    scratch: &mut [u16],
+) -> NearestAnswer
     requires { ⌜ InSetting s (now word) × (scratchWords * length (now word) ≤ length (now scratch)) × (length (now corrected) ≡ length (now word)) ⌝ }
     ensures { λ r. ⌜ NearestWith s (now (word .entry)) (now (corrected .entry)) (now (corrected .exit)) (r .refusal) (r .count) ⌝ }
 {
@@ -53,16 +58,21 @@ fn find_nearest(s: Setting, word: &[u16], corrected: &mut [u16], scratch: &mut [
     let most = radius(n);
     if count <= most {
         transpose(&scratch[..n], size, 8, corrected);
-        return Counted { refusal: 0, count };
+        return NearestAnswer { refusal: 0, count };
     }
-    Counted {
+    NearestAnswer {
         refusal: 13,
         count: 0,
     }
 }
 
 // Checks 9 and 13, then the codeword. A word that is a codeword is its own: no search.
-pub fn correct_with(s: Setting, word: &[u16], corrected: &mut [u16], scratch: &mut [u16]) -> Counted
+pub fn correct_with(
+    s: Setting,
+    word: &[u16],
+    corrected: &mut [u16],
+    scratch: &mut [u16],
+) -> NearestAnswer
     requires { ⌜ InPlaces s (now word) (now corrected) (now scratch) ⌝ }
     ensures { λ r. ⌜ CorrectedWith s (now (word .entry)) (now (corrected .entry)) (now (corrected .exit)) (r .refusal) (r .count) ⌝ }
 {
@@ -72,14 +82,14 @@ pub fn correct_with(s: Setting, word: &[u16], corrected: &mut [u16], scratch: &m
     if all_symbols(f, word) {
         if is_codeword(f, &images, s.space.k, word, &mut scratch[..n]) {
             copy(word, corrected);
-            return Counted {
+            return NearestAnswer {
                 refusal: 0,
                 count: 0,
             };
         }
         return find_nearest(s, word, corrected, scratch);
     }
-    Counted {
+    NearestAnswer {
         refusal: 9,
         count: 0,
     }

@@ -13,7 +13,7 @@ ghost use Rattle.lists.specs.All.{Below};
 ghost use Rattle.lists.specs.Stretch.{Apart};
 ghost use Rattle.field.specs.Binary.{degree, Irreducible};
 ghost use Rattle.field.specs.Products.{Sized};
-ghost use Rattle.correction.specs.Pairs.{Held, Stepped, AddedPair, Cancels, Cancelled};
+ghost use Rattle.correction.specs.Pairs.{Held, Advanced, AddedPair, Cancels, Cancelled};
 
 // The polynomial at `at` has the degree b, and the other one a degree below a.
 pub struct State {
@@ -66,7 +66,7 @@ fn cancel(
 // it away; or that one is the longer, and the two change places.
 fn step(f: Field, n: usize, s: State, work: &mut [u16]) -> State
     requires { ⌜ Held f n (s .a) (s .b) (s .at) (now work) × (0 < s .a) ⌝ }
-    ensures { λ r. ⌜ Stepped f n (s .a) (s .b) (s .at) (now (work .entry)) (r .a) (r .b) (r .at) (now (work .exit)) × (r .a + r .b < s .a + s .b) × ((r .b ≡ s .b) ⊎ (r .b + 1 ≡ s .a)) ⌝ }
+    ensures { λ r. ⌜ Advanced f n (s .a) (s .b) (s .at) (now (work .entry)) (r .a) (r .b) (r .at) (now (work .exit)) × (r .a + r .b < s .a + s .b) × ((r .b ≡ s .b) ⊎ (r .b + 1 ≡ s .a)) ⌝ }
 {
     let a = s.a - 1;
     let b = s.b;
@@ -90,7 +90,7 @@ fn step(f: Field, n: usize, s: State, work: &mut [u16]) -> State
 // Steps until the other polynomial has a degree below m.
 pub fn reduce(f: Field, n: usize, m: usize, work: &mut [u16]) -> State
     requires { ⌜ Held f n n n (4 * n) (now work) × (m ≤ n) ⌝ }
-    ensures { λ r. ⌜ Stepped f n n n (4 * n) (now (work .entry)) (r .a) (r .b) (r .at) (now (work .exit)) × (r .a ≤ m) × (m ≤ r .b) ⌝ }
+    ensures { λ r. ⌜ Advanced f n n n (4 * n) (now (work .entry)) (r .a) (r .b) (r .at) (now (work .exit)) × (r .a ≤ m) × (m ≤ r .b) ⌝ }
 {
     let mut a = n;
     let mut b = n;

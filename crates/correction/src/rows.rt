@@ -1,19 +1,20 @@
 // A multiple of one stretch of a list added to another, by the list product of `field`.
 use field::Field;
 use field::products::add_products;
+ghost use mathlib.Core.Path.{_≡_};
 ghost use Prim.Native.Nat.{_<_, _≤_, _^_};
 ghost use lib.ListN.{length};
-ghost use Rattle.lists.specs.All.{Below};
+ghost use Rattle.lists.specs.All.{All, Below, IsZero};
 ghost use Rattle.lists.specs.Stretch.{Apart};
 ghost use Rattle.field.specs.Binary.{degree, Irreducible};
 ghost use Rattle.field.specs.Products.{Sized};
-ghost use Rattle.correction.specs.Rows.{partSize, Added, Zeros};
+ghost use Rattle.correction.specs.Rows.{partSize, Added};
 
 // The numbers of one list product.
 const PART: usize = 256;
 
 fn zeros() -> [u16; PART]
-    ensures { λ r. ⌜ Zeros partSize r ⌝ }
+    ensures { λ r. ⌜ (length r ≡ partSize) × All IsZero r ⌝ }
 {
     [0u16; PART]
 }

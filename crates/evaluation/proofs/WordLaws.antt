@@ -25,7 +25,7 @@ use Rattle.transform.proofs.BlockLaws.{eight}
 use Rattle.novel.specs.Novel.{NovelOf}
 use Rattle.novel.specs.Settings.{steps-of}
 use Rattle.evaluation.specs.Lanes.{inOrder, in-order-word}
-use Rattle.evaluation.specs.Words.{spreadOf, Filling, LanesOf, InLanes}
+use Rattle.evaluation.specs.Words.{spreadOf, Filling, LanesOf, WordLanes}
 use Rattle.evaluation.proofs.Spreading.{length-spread, spread-each, spread-lane}
 
 module _ {f : _} {images : List ℕ} {k : ℕ} {d : List ℕ} (g : Filling f images k d) where
@@ -99,7 +99,7 @@ module _ {s : Setting} {bs : List ℕ} (r : Ready (s .field .modulus) bs s) wher
       ∙ ap (λ (i : ℕ). wordOf (symbols q) i bs p) (r .dimension))
 
   -- one after the other they are the word
-  module _ (p scratch : List ℕ) (l : InLanes s p scratch) where
+  module _ (p scratch : List ℕ) (l : WordLanes s p scratch) where
     pub lanes-transposed : (old new : List ℕ) → Transposed size 8 (take (2 ^ k) scratch) old new → length new ≡ 2 ^ k → new ≡ word p
     lanes-transposed old new t ln = transposed-word size (take (2 ^ k) scratch) old new (word p) t (ln ∙ eight-sizes) (length-word p) (l bs r)
 

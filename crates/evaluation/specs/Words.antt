@@ -49,7 +49,7 @@ pub record Taken (at d : ℕ) (from r : List ℕ) : Type 0 where
   pub right : take d r ≡ stretch d at from
 
 -- in front of the scratch stand the blocks of the word of p, as lanes
-abbrev pub InLanes : Setting → List ℕ → List ℕ → Type 0
-InLanes s p scratch =
+abbrev pub WordLanes : Setting → List ℕ → List ℕ → Type 0
+WordLanes s p scratch =
     (bs : List ℕ) → Ready (s .field .modulus) bs s → (r : ℕ) → r < 8
     → block (s .space .k) r (take (2 ^ s .space .k) scratch) ≡ part (2 ^ (s .space .k - 3)) r (wordOf (symbols (s .field .modulus)) (length bs) bs p)

@@ -14,7 +14,7 @@ ghost use Rattle.lists.specs.All.{Below};
 ghost use Rattle.field.specs.Binary.{degree};
 ghost use Rattle.space.specs.Sizes.{maxCoefficients};
 ghost use Rattle.space.specs.Usable.{Usable};
-ghost use Rattle.evaluation.specs.Words.{spreadOf, Fits, Filling, LanesOf, Taken, InLanes};
+ghost use Rattle.evaluation.specs.Words.{spreadOf, Fits, Filling, LanesOf, Taken, WordLanes};
 
 // Each number eight times.
 fn spread(from: &[u16], to: &mut [u16])
@@ -57,7 +57,7 @@ pub fn taken(from: &[u16], at: usize, d: usize) -> [u16; MAX_COEFFICIENTS]
 // The eight blocks, as lanes in front of the scratch, of the word of coefficients that are symbols.
 pub fn write_lanes(s: Setting, coefficients: &[u16], scratch: &mut [u16])
     requires { ⌜ Usable s × Fits s (now coefficients) (now scratch) × Below (2 ^ degree (s .field .modulus)) (now coefficients) ⌝ }
-    ensures { λ _. ⌜ InLanes s (now (coefficients .entry)) (now (scratch .exit)) ⌝ }
+    ensures { λ _. ⌜ WordLanes s (now (coefficients .entry)) (now (scratch .exit)) ⌝ }
 {
     let f = s.field;
     let images = s.space.images;

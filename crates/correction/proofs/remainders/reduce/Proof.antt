@@ -3,13 +3,13 @@ use mathlib.Core.Path.{_≡_}
 use mathlib.Core.Logic.{_⊎_, inl, inr}
 use Prim.Native.Nat.{ℕ, _+_, _*_, _≤_, _<_}
 use native.Mathlib.Omega.{arith}
-use Rattle.correction.specs.Pairs.{Stepped}
-use Rattle.correction.proofs.StepLaws.{stepped-none, stepped-then}
+use Rattle.correction.specs.Pairs.{Advanced}
+use Rattle.correction.proofs.StepLaws.{advanced-none, advanced-then}
 use Rattle.correction.proofs.remainders.reduce.Statement.{statement}
 use Rattle.correction.proofs.remainders.reduce.Tie as tie
 
 abbrev Inv-loop : tie.InvT-loop
-Inv-loop f n m work₀ a₀ b₀ at₀ work a b at = Stepped f n n n (4 * n) work₀ a b at work × (m ≤ b)
+Inv-loop f n m work₀ a₀ b₀ at₀ work a b at = Advanced f n n n (4 * n) work₀ a b at work × (m ≤ b)
 
 abbrev μ-loop : tie.MeasureT-loop
 μ-loop f n m work₀ a₀ b₀ at₀ work a b at = a + b
@@ -22,7 +22,7 @@ mul-at : tie.Need-mul-at Inv-loop μ-loop
 mul-at c = omega (arith, c .before .pre .0 .room)
 
 loop-holds : tie.Need-loop-holds Inv-loop μ-loop
-loop-holds c = (stepped-none (c .before .pre .0), c .before .pre .1)
+loop-holds c = (advanced-none (c .before .pre .0), c .before .pre .1)
 
 step-requires : tie.Need-step-requires Inv-loop μ-loop
 step-requires c κs =
@@ -36,7 +36,7 @@ loop-again : tie.Need-loop-again Inv-loop μ-loop
 loop-again c =
     let t = c .before .before in
     let i = t .before .before in
-    (stepped-then (i .before .loop .inv .0) (t .step .ensures .0), floor (i .loop-test .taken) (i .before .loop .inv .1) (t .step .ensures .2))
+    (advanced-then (i .before .loop .inv .0) (t .step .ensures .0), floor (i .loop-test .taken) (i .before .loop .inv .1) (t .step .ensures .2))
 
 same-length : tie.Need-same-length Inv-loop μ-loop
 same-length c = c .before .loop .inv .0 .kept

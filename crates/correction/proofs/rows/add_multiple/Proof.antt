@@ -45,10 +45,10 @@ module _ (c : tie.After-part-of Inv-loop μ-loop) where
   none = take size (head .before .zeros .result)
 
   length-none : length none ≡ size
-  length-none = length-take-le size (head .before .zeros .result) (omega (arith, head .before .zeros .ensures .count, c .part-of .ensures .2))
+  length-none = length-take-le size (head .before .zeros .result) (omega (arith, head .before .zeros .ensures .0, c .part-of .ensures .2))
 
   all-zero : All IsZero none
-  all-zero = All-take IsZero size (head .before .zeros .result) (head .before .zeros .ensures .zero)
+  all-zero = All-take IsZero size (head .before .zeros .result) (head .before .zeros .ensures .1)
 
   fits : i + length none ≤ start .args .n
   fits = omega (arith, length-none, c .part-of .ensures .1, c .before .loop-test .taken)

@@ -8,7 +8,7 @@ use Rattle.correction.proofs.rows.zeros.Statement.{statement}
 use Rattle.correction.proofs.rows.zeros.Tie as tie
 
 returns : tie.Need-returns
-returns c = record { count = length-replicate {A = ℕ} partSize 0; zero = All-replicate IsZero partSize 0 refl }
+returns c = (length-replicate {A = ℕ} partSize 0, All-replicate IsZero partSize 0 refl)
 
 pub zeros-spec : {M : Type 1} → statement M
 zeros-spec = tie.close (tie.spec returns)
