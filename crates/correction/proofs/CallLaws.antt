@@ -11,43 +11,17 @@ use Rattle.lists.specs.Calls.{zeros, Accepted, RefusedWith, Within, refused-lat
 use Rattle.field.specs.Binary.{degree}
 use Rattle.field.specs.Symbols.{symbols}
 use Rattle.space.specs.Ready.{Ready}
-use Rattle.space.specs.Setting.{Settled}
-use Rattle.space.specs.Sizes.{maxDim}
-use Rattle.space.specs.declared.Checked.{Checked}
 use Rattle.space.specs.declared.Setting.{Setting}
-use Rattle.lists.specs.Lengths.{lengths-passed}
-use Rattle.space.specs.Early as early
 use Rattle.space.specs.Usable.{own-ready}
 use Rattle.correction.specs.declared.Correction.the-variants.{Corrected, Refused}
-use Rattle.correction.specs.Calls.{lengthChecks, Early, nearChecks, correctionOf, Corrects, CorrectedWord}
+use Rattle.correction.specs.Calls.{nearChecks, correctionOf, Corrects, CorrectedWord}
 use Rattle.correction.specs.Checks.{earlyChecks, early-numbered}
 use Rattle.correction.specs.Near.{Near}
 use Rattle.correction.specs.Nearest.{CorrectedWith, InPlaces}
 use Rattle.correction.specs.Scratch.{correctionScratch}
 
-module _ (m : ℕ) (bs : List ℕ) (a b s : ℕ) where
-  early-within : Within 7 (earlyChecks m bs a b s)
-  early-within = (omega arith, (omega arith, (omega arith, (omega arith, (omega arith, (omega arith, (omega arith, tt)))))))
-
-  module _ (c : Checked) (set : Settled m bs c) where
-    abbrev cs : Checks
-    cs = lengthChecks (length bs) a b s
-
-    pub dimensions : c .refusal ≡ 0 → (3 ≤ length bs) × (length bs ≤ maxDim)
-    dimensions e = early.dimensions m bs cs c set e
-
-    pub early-refused : (ds : Checks) (r : ℕ) (old scratch : List ℕ) → Early (c .refusal) (length bs) a b s r → r ≢ 0 → RefusedWith (earlyChecks m bs a b s ++ ds) r old old scratch scratch
-    early-refused ds r old scratch e n = early.early-refused m bs cs c set early-within ds r old scratch e n
-
-    module _ (r : ℕ) (e : Early (c .refusal) (length bs) a b s r) (z : r ≡ 0) where
-      pub early-passes : Passes (earlyChecks m bs a b s)
-      early-passes = early.early-passes m bs cs c set r e z
-
-      pub early-ready : Ready m bs (c .setting)
-      early-ready = early.early-ready m bs cs c set r e z
-
-      pub early-lengths : (a ≡ 2 ^ length bs) × (b ≡ 2 ^ length bs) × (correctionScratch (length bs) ≤ s)
-      early-lengths = lengths-passed a (2 ^ length bs) b (2 ^ length bs) s (correctionScratch (length bs)) (early.early-rest m bs cs c set r e z)
+pub early-within : (m : ℕ) (bs : List ℕ) (a b s : ℕ) → Within 7 (earlyChecks m bs a b s)
+early-within m bs a b s = (omega arith, (omega arith, (omega arith, (omega arith, (omega arith, (omega arith, (omega arith, tt)))))))
 
 pub in-places : {m : ℕ} {bs : List ℕ} {s : Setting} (word corrected scratch : List ℕ) → Ready m bs s
     → (length word ≡ 2 ^ length bs) × (length corrected ≡ 2 ^ length bs) × (correctionScratch (length bs) ≤ length scratch) → InPlaces s word corrected scratch

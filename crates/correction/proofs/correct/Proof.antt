@@ -1,15 +1,18 @@
 -- `correction::correct` meets its contract: a case for each of its two ways out. Assumes nothing.
 use mathlib.Core.Path.{_≡_, sym, ap, subst, _∙_}
 use mathlib.Core.List.{List}
-use Prim.Native.Nat.{ℕ}
+use Prim.Native.Nat.{ℕ, _^_}
 use lib.ListN.{length}
 use borrow.Author.Needs.{needs}
-use Rattle.lists.specs.Answers.{Passes}
+use Rattle.lists.specs.Answers.{Checks, Passes}
 use Rattle.lists.specs.Calls.{zeros}
+use Rattle.lists.specs.Lengths.{lengths-passed}
+use Rattle.space.specs.Early.{dimensions, early-passes, early-ready, early-rest, early-refused}
 use Rattle.space.specs.Ready.{Ready}
-use Rattle.correction.specs.Calls.{nearChecks, CorrectedWord}
+use Rattle.correction.specs.Calls.{lengthChecks, nearChecks, CorrectedWord}
 use Rattle.correction.specs.Checks.{earlyChecks}
-use Rattle.correction.proofs.CallLaws.{early-passes, early-ready, early-lengths, early-refused, dimensions, in-places, told-of}
+use Rattle.correction.specs.Scratch.{correctionScratch}
+use Rattle.correction.proofs.CallLaws.{early-within, in-places, told-of}
 use Rattle.correction.proofs.correct.Statement.{statement}
 use Rattle.correction.proofs.correct.Tie as tie
 
@@ -33,16 +36,23 @@ module _ (c : tie.After-early-refusal) where
   abbrev scratch : List ℕ
   scratch = start .args .scratch .now
 
+  -- checks 6 and 7
+  abbrev lengths : Checks
+  lengths = lengthChecks (length bs) (length word) (length output) (length scratch)
+
 -- ---- past check 7
 module _ (c : tie.Then1) where
   abbrev at : tie.After-early-refusal
   at = c .before
 
   passing : Passes (earlyChecks (m at) (bs at) (length (word at)) (length (output at)) (length (scratch at)))
-  passing = early-passes (m at) (bs at) (length (word at)) (length (output at)) (length (scratch at)) (at .before .before .check .result) (at .before .before .check .ensures) (at .early-refusal .result) (at .early-refusal .ensures) (c .if1 .taken)
+  passing = early-passes (m at) (bs at) (lengths at) (at .before .before .check .result) (at .before .before .check .ensures) (at .early-refusal .result) (at .early-refusal .ensures) (c .if1 .taken)
 
   set : Ready (m at) (bs at) (at .before .before .check .result .setting)
-  set = early-ready (m at) (bs at) (length (word at)) (length (output at)) (length (scratch at)) (at .before .before .check .result) (at .before .before .check .ensures) (at .early-refusal .result) (at .early-refusal .ensures) (c .if1 .taken)
+  set = early-ready (m at) (bs at) (lengths at) (at .before .before .check .result) (at .before .before .check .ensures) (at .early-refusal .result) (at .early-refusal .ensures) (c .if1 .taken)
+
+  right-lengths : Passes (lengths at)
+  right-lengths = early-rest (m at) (bs at) (lengths at) (at .before .before .check .result) (at .before .before .check .ensures) (at .early-refusal .result) (at .early-refusal .ensures) (c .if1 .taken)
 
 -- ---- once the scratch is cleared
 module _ (c : tie.After-finish) where
@@ -61,14 +71,15 @@ check-requires c κs = search needs
 early-refusal-requires : tie.Need-early-refusal-requires
 early-refusal-requires c κs =
     let start = c .before .before .before .before .before .before in
-    dimensions (start .args .modulus) (start .args .basis .now) 0 0 0 (c .before .check .result) (c .before .check .ensures)
+    dimensions (start .args .modulus) (start .args .basis .now) (lengthChecks 0 0 0 0) (c .before .check .result) (c .before .check .ensures)
 
 correct-with-requires : tie.Need-correct-with-requires
 correct-with-requires c κs =
     let then = c .before .before in
     let here = at then in
     in-places (word here) (output here) (scratch here) (set then)
-    (early-lengths (m here) (bs here) (length (word here)) (length (output here)) (length (scratch here)) (here .before .before .check .result) (here .before .before .check .ensures) (here .early-refusal .result) (here .early-refusal .ensures) (then .if1 .taken))
+    (lengths-passed (length (word here)) (2 ^ length (bs here)) (length (output here)) (2 ^ length (bs here)) (length (scratch here)) (correctionScratch (length (bs here)))
+    (right-lengths then))
 
 finish-requires : tie.Need-finish-requires
 finish-requires c κs = search needs
@@ -94,7 +105,7 @@ returns c =
 returns-2 : tie.Need-returns-2
 returns-2 c =
     let a = c .before in
-    early-refused (m a) (bs a) (length (word a)) (length (output a)) (length (scratch a)) (a .before .before .check .result) (a .before .before .check .ensures)
+    early-refused (m a) (bs a) (lengths a) (a .before .before .check .result) (a .before .before .check .ensures) (early-within (m a) (bs a) (length (word a)) (length (output a)) (length (scratch a)))
     (nearChecks (m a) (bs a) (word a)) (a .early-refusal .result) (output a) (scratch a) (a .early-refusal .ensures) (c .if1 .left)
 
 pub correct-spec : {M : Type 1} → statement M
