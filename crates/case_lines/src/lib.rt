@@ -35,13 +35,13 @@ pub fn numbers(xs: &[u16]) {
     }
 }
 
-// What is figure, with its number.
+// A text, and a number behind it.
 pub fn figure(what: &[u8], n: u64) {
     io::write_all(STDOUT_FILENO, what);
     io::print_decimal(STDOUT_FILENO, n);
 }
 
-// The end of a line.
+// The number of zeros in the scratch, and the end of the line.
 pub fn cleared(scratch: &[u16]) {
     figure(b", zeros ", zeros(scratch) as u64);
     io::write_all(STDOUT_FILENO, b"\n");

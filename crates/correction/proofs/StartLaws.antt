@@ -83,9 +83,6 @@ module _ (q : ℕ) (irr : Irreducible q) (steps : List ℕ) (k : ℕ) where
         value = λ x. eval-zeros F values x z;
       }
 
-  term-step : (u v w : ℕ) → v ≡ w → K ._⊕_ u v ≡ K ._⊕_ u w
-  term-step u v w e = ap (K ._⊕_ u) e
-
   pub terms-next : (i n p x : ℕ) (values : List ℕ) → p ≡ 2 ^ i → p < n → x ≡ c i → x < 2 ^ degree q → Terms q steps k i n values → Terms q steps k (i + 1) n (set values p x)
   unfolding linear
   terms-next i n p x values ep h ex sx t =

@@ -14,12 +14,12 @@ use Rattle.poly.specs.Codeword.{Basis, wordOf, Codeword, basis-distinct}
 use Rattle.correction.specs.Coefficients.{coeff}
 use Rattle.correction.specs.Differences.{differences, differing, differing-le, differing-triangle, differing-sym, differences-differing, root-count}
 
--- the number of positions that are put right in a word of n symbols
+-- at most so many positions of a word of n symbols are put right: 7/16 of them, rounded down
 abbrev pub radius : ℕ → ℕ
 radius n = 7 * n / 16
 
 module _ (K : Ops) (k : ℕ) (b w : List ℕ) where
-  -- c is a codeword that differs from w in no more positions
+  -- c is a codeword that differs from w in no more positions than the radius
   pub record Near (c : List ℕ) : Type 0 where
     pub codeword : Codeword K k b c
     pub close : differences w c ≤ radius (2 ^ k)
@@ -43,9 +43,6 @@ module _ (K : Ops) (k : ℕ) (b w : List ℕ) (lw : length w ≡ 2 ^ k) where
 
   pub near-poly : (p : List ℕ) → length p ≡ 2 ^ (k - 3) → All (K .Sym) p → differences w (wordOf K k b p) ≤ radius (2 ^ k) → NearPoly K k b w p
   near-poly p lp sp h = record { count = lp; elements = sp; close = omega (arith, differences-word p) }
-
-  pub poly-near : (p : List ℕ) → NearPoly K k b w p → Near K k b w (wordOf K k b p)
-  poly-near p n = record { codeword = (p, n .count, n .elements, mathlib.Core.Path.refl); close = omega (arith, differences-word p, n .close) }
 
 module _ {K : Ops} (F : IsField K) (k : ℕ) (hk : 3 ≤ k) (b : List ℕ) (B : Basis K k b) (w : List ℕ) where
   open Ops K using (Sym)

@@ -16,7 +16,7 @@ ghost use Rattle.correction.specs.Start.{InSetting};
 ghost use Rattle.correction.specs.Candidate.{Loaded, Beginning, Begun, Prepared, Found};
 ghost use Rattle.correction.specs.Scratch.{scratchWords};
 
-// The number of positions that are put right in a word of n symbols.
+// At most so many positions of a word of n symbols are put right.
 pub fn radius(n: usize) -> usize
     requires { ⌜ n ≤ maxWord ⌝ }
     ensures { λ r. ⌜ r ≡ radius n ⌝ }
