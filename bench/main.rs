@@ -170,7 +170,8 @@ fn stored(f: &plain::Field, basis: &[u16]) {
         &mut |_| assert_eq!(calls::total(&bytes, 3), 0),
         &mut |_| assert!((0..2048).all(|c| plain::check(f, &space, &held.word, &held.proof, c))),
     ]);
-    let slow = time(|_| assert_eq!(file::count(&bytes), Ok([8, 2048, 0, 64, 0])));
+    let counts = file::Counts { numbers: [8, 2048, 0, 64], off: Some(0) };
+    let slow = time(|_| assert_eq!(file::count(&bytes), Ok(counts)));
     println!("\nall 2048 coins of a stored file at k = 8: proved {:.3} ms, log tables {:.3} ms, model {:.1} ms", proved / 1e6, fast / 1e6, slow / 1e6);
 
     let bytes = stored_file(f, basis);

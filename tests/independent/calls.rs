@@ -67,7 +67,7 @@ pub fn make(message: &[u8], out: &mut [u8]) -> u32 {
     unsafe { raw::proximity_make(message.as_ptr(), message.len(), out.as_mut_ptr(), out.len()) }
 }
 
-/// A total of the coin counter by its number: the refusal, then its five lines.
+/// A total of the coin counter by its number: the refusal, then its five lines, the last 65536 for far.
 pub fn total(file: &[u8], which: u32) -> u64 {
     unsafe { raw::proximity_total(file.as_ptr(), file.len(), which) }
 }

@@ -1,5 +1,6 @@
 //! The stored file, written from document 01: slow and direct.
-use crate::model::{coin_bits, degree, irreducible, independent, positions, proof_length, through_first, word_of, LARGEST};
+use crate::model::{coin_bits, degree, irreducible, independent, positions, proof_length, LARGEST};
+use crate::nearest::{differences, nearest};
 
 /// The most bytes of a file that a program takes.
 pub const FILE_LIMIT: usize = 40000;
@@ -137,12 +138,18 @@ pub fn coin_numbers(f: &File) -> [u64; 4] {
     [k as u64, coins, rejects as u64, most as u64]
 }
 
-/// The five numbers of the coin counter, or the number of a refusal.
-pub fn count(bytes: &[u8]) -> Result<[u64; 5], u32> {
+/// What the coin counter tells of a file: the numbers of its coins, and at how many positions the word differs from the codeword within the
+/// radius; `None` where there is no such codeword.
+#[derive(Clone, Copy, Debug, PartialEq)]
+pub struct Counts {
+    pub numbers: [u64; 4],
+    pub off: Option<usize>,
+}
+
+/// The counts of a file, or the number of a refusal.
+pub fn count(bytes: &[u8]) -> Result<Counts, u32> {
     refuse_if(bytes.len() > FILE_LIMIT, 6)?;
     let f = read(bytes)?;
-    let [k, coins, rejects, most] = coin_numbers(&f);
-    let near = word_of(f.modulus, &f.basis, &through_first(f.modulus, &f.basis, &f.word));
-    let off = near.iter().zip(&f.word).filter(|(a, b)| a != b).count();
-    Ok([k, coins, rejects, most, off as u64])
+    let off = nearest(f.modulus, &f.basis, &f.word).map(|c| differences(&c, &f.word));
+    Ok(Counts { numbers: coin_numbers(&f), off })
 }

@@ -172,7 +172,10 @@ pub fn samples(t: &mut Tally, kind: &str, beside: &str, mut text: impl FnMut(&[u
 fn counts(f: &[u8]) -> String {
     match file::count(f) {
         Err(n) => format!("refused {n}\n"),
-        Ok([k, coins, rejects, most, off]) => format!("k {k}\ncoins {coins}\nrejects {rejects}\nreads-most {most}\noff {off}\n"),
+        Ok(file::Counts { numbers: [k, coins, rejects, most], off }) => {
+            let off = off.map_or("far".to_string(), |n| n.to_string());
+            format!("k {k}\ncoins {coins}\nrejects {rejects}\nreads-most {most}\noff {off}\n")
+        }
     }
 }
 
