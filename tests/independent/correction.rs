@@ -27,22 +27,28 @@ fn codeword(d: &mut Draw, s: &Setting) -> Vec<u16> {
 }
 
 /// Some of the numbers below n, in some order.
-fn places(d: &mut Draw, n: usize, count: usize) -> Vec<usize> {
+pub fn places(d: &mut Draw, n: usize, count: usize) -> Vec<usize> {
     let mut all: Vec<usize> = (0..n).collect();
     (0..count).for_each(|i| all.swap(i, i + d.below((n - i) as u64) as usize));
     all.truncate(count);
     all
 }
 
-/// A word that differs at so many positions.
-fn damaged(d: &mut Draw, s: &Setting, c: &[u16], count: usize) -> Vec<u16> {
+/// The symbols, changed at these positions.
+pub fn changed(d: &mut Draw, s: &Setting, c: &[u16], at: &[usize]) -> Vec<u16> {
     let mut w = c.to_vec();
-    places(d, c.len(), count).into_iter().for_each(|i| w[i] ^= 1 + d.below((1 << s.l) - 1) as u16);
+    at.iter().for_each(|i| w[*i] ^= 1 + d.below((1 << s.l) - 1) as u16);
     w
 }
 
+/// A word that differs at so many positions.
+pub fn damaged(d: &mut Draw, s: &Setting, c: &[u16], count: usize) -> Vec<u16> {
+    let at = places(d, c.len(), count);
+    changed(d, s, c, &at)
+}
+
 /// Damage of none, one, some, as many as the radius, one more, and any more.
-fn amount(d: &mut Draw, n: usize, turn: usize) -> usize {
+pub fn amount(d: &mut Draw, n: usize, turn: usize) -> usize {
     let t = radius(n);
     [0, 1, d.below(t as u64) as usize, t, t + 1, t + 2 + d.below((n - t - 1) as u64) as usize][turn % 6]
 }
@@ -66,7 +72,7 @@ fn words(t: &mut Tally) {
 }
 
 /// A word between two codewords that differ as little as two can, and the one of them that it is near.
-fn between(d: &mut Draw, s: &Setting) -> (Vec<u16>, Option<Vec<u16>>) {
+pub fn between(d: &mut Draw, s: &Setting) -> (Vec<u16>, Option<Vec<u16>>) {
     let n = 1 << s.b.len();
     let roots: Vec<u16> = places(d, n, n / 8 - 1).into_iter().map(|i| model::elem(&s.b, i)).collect();
     let step = model::word_of(s.m, &s.b, &model::roots(s.m, &roots));
@@ -81,7 +87,7 @@ fn between(d: &mut Draw, s: &Setting) -> (Vec<u16>, Option<Vec<u16>>) {
 }
 
 /// A word of a degree too high for a near codeword: it differs from each at more positions than the radius.
-fn too_high(d: &mut Draw, s: &Setting) -> Vec<u16> {
+pub fn too_high(d: &mut Draw, s: &Setting) -> Vec<u16> {
     let n = 1usize << s.b.len();
     let least = n / 8;
     let most = n - radius(n) - 1;

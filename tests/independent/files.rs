@@ -168,21 +168,9 @@ pub fn samples(t: &mut Tally, kind: &str, beside: &str, mut text: impl FnMut(&[u
     t.group(&format!("{beside} of the samples"), wrong, cases);
 }
 
-/// What the coin counter prints of a file.
-fn counts(f: &[u8]) -> String {
-    match file::count(f) {
-        Err(n) => format!("refused {n}\n"),
-        Ok(file::Counts { numbers: [k, coins, rejects, most], off }) => {
-            let off = off.map_or("far".to_string(), |n| n.to_string());
-            format!("k {k}\ncoins {coins}\nrejects {rejects}\nreads-most {most}\noff {off}\n")
-        }
-    }
-}
-
 pub fn all(t: &mut Tally) {
     cuts(t, "files cut at every length", |f, met| same(f, 0, met));
     damaged(t);
     places(t);
     parts(t);
-    samples(t, "stored", "counts", counts);
 }

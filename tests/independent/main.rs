@@ -3,6 +3,7 @@ mod arithmetic;
 mod calls;
 mod codec;
 mod correction;
+mod counter;
 mod file;
 mod files;
 mod largest;
@@ -145,6 +146,7 @@ fn main() {
     largest::all(&mut t);
     files::all(&mut t);
     writers::all(&mut t);
+    counter::all(&mut t);
     report::all(&mut t);
     println!("{} passed, {} failed", t.passed, t.failed);
     std::process::exit(i32::from(t.failed != 0));

@@ -1,4 +1,4 @@
-//! What is made from files and symbols: the proved writer, counter and message program beside the independent model.
+//! What is made from files and symbols: the proved writer and message program beside the independent model.
 use crate::files::{bytes, delivery, spoil};
 use crate::{calls, damage, file, model, outside, spoil_setting, Draw, Met, Tally};
 
@@ -31,43 +31,6 @@ fn written(t: &mut Tally) {
         met.add(number);
     }
     t.answers("writer of files", wrong, &met, &[0, 1, 2, 3, 4, 5, 6, 9]);
-}
-
-/// Counts as the proved call codes them: the refusal, then the five lines; 65536 for far.
-fn coded(r: Result<file::Counts, u32>) -> [u64; 6] {
-    match r {
-        Err(n) => [n as u64, 0, 0, 0, 0, 0],
-        Ok(file::Counts { numbers: [k, coins, rejects, most], off }) => [0, k, coins, rejects, most, off.map_or(65536, |n| n as u64)],
-    }
-}
-
-/// The coin counter over honest, damaged and overlong files.
-fn counts(t: &mut Tally) {
-    let mut d = Draw(0x1f83d9abfb41bd6b);
-    let (mut wrong, mut met, mut rejects) = (0, Met::default(), 0);
-    for round in 0..800u64 {
-        let k = if round < 12 { 8 } else { 3 + (round % 5) as usize };
-        let mut x = delivery(&mut d, k);
-        match round % 4 {
-            1 => damage(&mut d, &mut x.w, 1 << x.s.l),
-            2 => damage(&mut d, &mut x.proof, 1 << x.s.l),
-            3 if round % 8 == 3 => spoil_setting(&mut d, &mut x.s),
-            _ => {}
-        }
-        let mut f = bytes(&x);
-        match round % 16 {
-            5 => spoil(&mut d, &mut f, k),
-            6 => f.resize(39999 + d.below(3) as usize, 0),
-            8 => f.truncate(d.below(f.len() as u64) as usize),
-            _ => {}
-        }
-        let right = file::count(&f);
-        rejects += right.map_or(0, |r| r.numbers[2]);
-        wrong += u64::from([0, 1, 2, 3, 4, 5].map(|i| calls::total(&f, i)) != coded(right));
-        met.add(right.err().unwrap_or(0));
-    }
-    t.answers("coin counter", wrong, &met, &[0, 1, 2, 3, 4, 5, 6, 9, 11, 12]);
-    t.group("rejecting coins counted", 0, rejects);
 }
 
 /// A message that is right or not, of dimension k.
@@ -117,6 +80,5 @@ fn messages(t: &mut Tally) {
 
 pub fn all(t: &mut Tally) {
     written(t);
-    counts(t);
     messages(t);
 }
