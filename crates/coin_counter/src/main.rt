@@ -1,6 +1,7 @@
 // Tries all coins of the stored file on standard input, and prints the totals, or the number of the
 // refusal. A write that failed is told on standard error.
 use coins::Counts;
+use coins::Distance;
 use libc::STDERR_FILENO;
 use libc::STDIN_FILENO;
 use libc::STDOUT_FILENO;
@@ -24,16 +25,25 @@ fn line(label: &[u8], n: u64) -> bool {
         && io::write_all(STDOUT_FILENO, b"\n")
 }
 
+// The line of the word's distance.
+fn off(d: Distance) -> bool {
+    match d {
+        Distance::Near(n) => line(b"off ", n as u64),
+        Distance::Far => io::write_all(STDOUT_FILENO, b"off far\n"),
+    }
+}
+
 // Whether all lines are written.
 fn show(c: Counts) -> bool {
     if c.refusal != 0 {
         return line(b"refused ", c.refusal as u64);
     }
+    let d = c.off;
     line(b"k ", c.k as u64)
         && line(b"coins ", c.coins)
         && line(b"rejects ", c.rejects)
         && line(b"reads-most ", c.most as u64)
-        && line(b"off ", c.off as u64)
+        && off(d)
 }
 
 fn main() {

@@ -10,19 +10,21 @@ use Rattle.lists.specs.All.{Below}
 use Rattle.lists.specs.Answers.{Passes}
 use Rattle.lists.specs.Tables.{length-tab}
 use Rattle.field.specs.Binary.{degree}
-use Rattle.field.specs.Symbols.{symbols}
 use Rattle.proximity.specs.Dim.{S}
 use Rattle.verifier.proofs.Laws.{one-shifted}
-use Rattle.transform.specs.Blocks.{InBlocks}
+use Rattle.space.specs.Ready.{Ready}
+use Rattle.space.specs.Usable.{own-ready}
+use Rattle.correction.specs.Start.{InSetting}
 use Rattle.stored.specs.Accepted.{accepted, read-places}
 use Rattle.stored.specs.Bytes.{twoAt, numbersAt}
-use Rattle.stored.specs.CheckLaws.{read-passes, read-ready, read-dimension, read-space, read-images, read-below}
+use Rattle.stored.specs.CheckLaws.{read-passes, read-ready, read-dimension, read-below}
 use Rattle.stored.specs.File.{fileLimit, smallDim, modulusIn, dimIn, basisIn, wordIn}
 use Rattle.stored.specs.Reader.{fileChecks}
 use Rattle.stored.specs.Short.{short-proof, short-file}
 use Rattle.stored.specs.declared.Reading.{Reading}
 use Rattle.coins.specs.Tally.{Readable}
 use Rattle.coins.specs.Totals.{Off}
+use Rattle.coins.specs.declared.Distance.{Distance}
 
 -- the numbers that were written into the first n places of a list
 module _ (f : List ℕ) (at n : ℕ) (old new : List ℕ) (h : n ≤ length old) (e : new ≡ numbersAt f at (length (take n old))) where
@@ -50,6 +52,10 @@ module _ (f : List ℕ) (r : Reading) (a : Readable f r) where
   abbrev k : ℕ
   k = r .setting .space .k
 
+  -- the setting that was read is ready, by its own modulus
+  set : Ready (r .setting .field .modulus) (basisIn f) (r .setting)
+  set = own-ready (read-ready f r (a .0) (a .1))
+
   pub small : length f ≤ fileLimit → k ≤ smallDim
   small h = omega (arith, read-dimension f r (a .0) (a .1), small-dimension f (read-passes f r (a .0) (a .1)) h)
 
@@ -67,25 +73,22 @@ module _ (f : List ℕ) (r : Reading) (a : Readable f r) where
     pub short : S k ≤ S smallDim
     short = short-proof k (small h)
 
-    pub word-blocks : (w : List ℕ) → w ≡ numbersAt f (r .word) (2 ^ k) → InBlocks (r .setting .field) (r .setting .space .images) k w
-    word-blocks w e =
-        let s = read-space f r (a .0) (a .1) in
+    -- the word that was read, in the setting that was read
+    pub word-set : (w : List ℕ) → w ≡ numbersAt f (r .word) (2 ^ k) → InSetting (r .setting) w
+    word-set w e =
         record {
-          sized = s .sized;
-          irreducible = s .irreducible;
-          low = s .low;
-          high = s .high;
-          long = ap length e ∙ length-tab (2 ^ k) (λ i. twoAt f (r .word + 2 * i));
-          image-symbols = read-images f r (a .0) (a .1) .elements;
+          basis = basisIn f;
+          ready = set;
+          whole = ap length e ∙ length-tab (2 ^ k) (λ i. twoAt f (r .word + 2 * i));
           symbols = subst (Below (2 ^ degree (r .setting .field .modulus))) (sym e) (read-below f r (a .0) (a .1) .0);
         }
 
-    -- what is off in the word that was read
-    pub word-off : (w : List ℕ) (n : ℕ) → w ≡ numbersAt f (r .word) (2 ^ k) → Off (symbols (r .setting .field .modulus)) k (basisIn f) w n
-        → Off (symbols (modulusIn f)) (dimIn f) (basisIn f) (wordIn f) n
+    -- how far it is off
+    pub word-off : (w : List ℕ) (d : Distance) → w ≡ numbersAt f (r .word) (2 ^ k) → ((bs : List ℕ) → Ready (r .setting .field .modulus) bs (r .setting) → Off (r .setting .field .modulus) bs w d)
+        → Off (modulusIn f) (basisIn f) (wordIn f) d
     unfolding wordIn
-    word-off w n e o =
+    word-off w d e o =
         let modulus : r .setting .field .modulus ≡ modulusIn f = read-ready f r (a .0) (a .1) .modulus in
         let dimension : k ≡ dimIn f = read-dimension f r (a .0) (a .1) in
         let same : w ≡ wordIn f = e ∙ ap₂ (numbersAt f) (read-places f r (a .0) (a .1) .word) (ap (λ (j : ℕ). 2 ^ j) dimension) in
-        transport (λ i. Off (symbols (modulus i)) (dimension i) (basisIn f) (same i) n) o
+        transport (λ i. Off (modulus i) (basisIn f) (same i) d) (o (basisIn f) set)

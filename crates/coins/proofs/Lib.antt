@@ -1,4 +1,3 @@
 -- Laws that belong to no one function.
-pub mod LaneLaws
-pub mod OffFirst
 pub mod FileSymbols
+pub mod OffWord

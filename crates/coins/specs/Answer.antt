@@ -70,6 +70,10 @@ module _ (f : List ℕ) where
   counted-file (inl a) = absurd (omega arith)
   counted-file (inr a) = a .1
 
+  pub word-length : length (wordIn f) ≡ 2 ^ length (basisIn f)
+  unfolding wordIn
+  word-length = length-tab (2 ^ dimIn f) (λ i. twoAt f (wordAt (dimIn f) + 2 * i)) ∙ ap (λ (k : ℕ). 2 ^ k) (sym (length-basis f))
+
   module _ (p : Passes (fileChecks f)) where
     abbrev K : Ops
     K = symbols (modulusIn f)
@@ -88,12 +92,9 @@ module _ (f : List ℕ) where
     unfolding wordIn proofIn
     accepts-stable coin =
         equation-stable
-        (verdict field (dim (dimIn f)) (basisIn f) (wordIn f) (proofIn f) basis word-length proof-length coin
+        (verdict field (dim (dimIn f)) (basisIn f) (wordIn f) (proofIn f) basis (word-length ∙ ap (λ (k : ℕ). 2 ^ k) (length-basis f)) proof-length coin
         (λ i h. All-at (λ (x : ℕ). x < 2 ^ degree (modulusIn f)) (symbolsAt (dimIn f) (wordIn f) (proofIn f) coin) 0 read-below (pow-pos (degree (modulusIn f))) i))
       where
-        word-length : length (wordIn f) ≡ 2 ^ dimIn f
-        word-length = length-tab (2 ^ dimIn f) (λ i. twoAt f (wordAt (dimIn f) + 2 * i))
-
         proof-length : length (proofIn f) ≡ S (dimIn f)
         proof-length = length-tab (S (dimIn f)) (λ i. twoAt f (proofAt (dimIn f) + 2 * i))
 
@@ -126,7 +127,7 @@ module _ (f : List ℕ) where
   same-totals : Passes (fileChecks f) → (r s : Counts) → r .refusal ≡ s .refusal → Totals f r → Totals f s → r ≡ s
   same-totals p r s e t u =
       let (k, coins, rejects, most) = swept-one (t .swept) (u .swept) in
-      let off : r .off ≡ s .off = off-one (field f p) (dimIn f) (basisIn f) (basis f p) (wordIn f) (t .off) (u .off) in
+      let off : r .off ≡ s .off = off-one (modulusIn f) (basisIn f) (held f p .records .setting) (wordIn f) (word-length f) (r .off) (s .off) (t .off) (u .off) in
       λ i. record { refusal = e i; k = k i; coins = coins i; rejects = rejects i; most = most i; off = off i }
 
   pub one-count : (r s : Counts) → Told f r → Told f s → r ≡ s

@@ -4,4 +4,3 @@ pub mod Totals
 pub mod OffLaws
 pub mod Answer
 pub mod Tally
-pub mod Lanes

@@ -2,16 +2,12 @@
 use mathlib.Core.Path.{_≡_}
 use mathlib.Core.Logic.{_⊎_}
 use mathlib.Core.List.{List, _∷_}
-use Prim.Native.Nat.{ℕ, zero, suc, _-_, _^_, _<_, max}
-use lib.ListN.{length, getD}
-use Rattle.lists.specs.All.{All}
+use Prim.Native.Nat.{ℕ, zero, suc, _^_, _<_, max}
+use lib.ListN.{length}
 use Rattle.lists.specs.Answers.{Checks, Passes, Refuses}
-use Rattle.field.specs.Laws.{Ops}
 use Rattle.field.specs.Symbols.{symbols}
-use Rattle.poly.specs.Codeword.{wordOf}
-use Rattle.poly.specs.Poly.{eval}
-use Rattle.poly.specs.Span.{elem}
-use Rattle.correction.specs.Differences.{differences}
+use Rattle.correction.specs.Calls.{Corrects}
+use Rattle.correction.specs.Near.{NoneNear}
 use Rattle.proximity.specs.Dim.{R}
 use Rattle.verifier.specs.Checker.{readsOf}
 use Rattle.verifier.specs.declared.Verdict.the-variants.{Reject}
@@ -20,6 +16,8 @@ use Rattle.stored.specs.File.{fileLimit, modulusIn, dimIn, basisIn, wordIn}
 use Rattle.stored.specs.Reader.{fileChecks}
 use Rattle.coins.specs.Counted.{Counted}
 use Rattle.coins.specs.declared.Counts.{Counts}
+use Rattle.coins.specs.declared.Distance.{Distance}
+use Rattle.coins.specs.declared.Distance.the-variants.{Near, Far}
 
 -- ---- the coins
 
@@ -41,16 +39,10 @@ pub record Swept (f : List ℕ) (k coins rejects most : ℕ) : Type 0 where
 
 -- ---- the word
 
-module _ (K : Ops) (k : ℕ) (b w : List ℕ) where
-  -- p has degree below n/8 and goes through the first n/8 symbols of w
-  pub record ThroughFirst (p : List ℕ) : Type 0 where
-    pub count : length p ≡ 2 ^ (k - 3)
-    pub elements : All (K .Sym) p
-    pub values : (i : ℕ) → i < 2 ^ (k - 3) → eval K p (elem K b i) ≡ getD w i 0
-
-  -- w differs at n positions from the word of that polynomial
-  abbrev pub Off : ℕ → Type 0
-  Off n = (p : List ℕ) × ThroughFirst p × (n ≡ differences w (wordOf K k b p))
+-- how far a word is from the codewords, by its correction: the number of differences that it finds, or far where it refuses with 13
+abbrev pub Off : ℕ → List ℕ → List ℕ → Distance → Type 0
+Off m bs w (Near n) = (c : List ℕ) × Corrects m bs w n c
+Off m bs w Far = NoneNear (symbols m) (length bs) bs w
 
 -- ---- the answer
 
@@ -58,13 +50,13 @@ module _ (K : Ops) (k : ℕ) (b w : List ℕ) where
 abbrev pub countChecks : List ℕ → Checks
 countChecks f = (6, fileLimit < length f) ∷ fileChecks f
 
--- what all coins tell, and the positions off
+-- what all coins tell, and how far the word is off
 pub record Totals (f : List ℕ) (r : Counts) : Type 0 where
   pub swept : Swept f (r .k) (r .coins) (r .rejects) (r .most)
-  pub off : Off (symbols (modulusIn f)) (dimIn f) (basisIn f) (wordIn f) (r .off)
+  pub off : Off (modulusIn f) (basisIn f) (wordIn f) (r .off)
 
 unfoldable pub noCounts : ℕ → Counts
-noCounts n = record { refusal = n; k = 0; coins = 0; rejects = 0; most = 0; off = 0 }
+noCounts n = record { refusal = n; k = 0; coins = 0; rejects = 0; most = 0; off = Near 0 }
 
 -- 0 and the totals; or the number of the first check that refuses, and no totals
 abbrev pub Told : List ℕ → Counts → Type 0

@@ -6,6 +6,13 @@ pub mod tally;
 ghost use mathlib.Core.Path.{_≡_};
 ghost use Rattle.coins.specs.Totals.{noCounts, Told};
 
+// How far a word is from the codewords, by its correction: the number of differences that it finds,
+// or far where it refuses with 13.
+pub enum Distance {
+    Near(usize),
+    Far,
+}
+
 // What all coins of a file tell: the dimension, the number of coins, how many of them reject, and
 // the most symbols that one of them reads.
 pub struct Sweep {
@@ -16,15 +23,14 @@ pub struct Sweep {
 }
 
 // A refusal's number and zeros; or 0, the dimension, the number of coins, how many of them reject,
-// the most symbols that one of them reads, and at how many positions the word differs from the
-// polynomial through its first eighth.
+// the most symbols that one of them reads, and how far the word is off the codewords.
 pub struct Counts {
     pub refusal: u8,
     pub k: usize,
     pub coins: u64,
     pub rejects: u64,
     pub most: usize,
-    pub off: usize,
+    pub off: Distance,
 }
 
 fn refused(number: u8) -> Counts
@@ -36,14 +42,14 @@ fn refused(number: u8) -> Counts
         coins: 0,
         rejects: 0,
         most: 0,
-        off: 0,
+        off: Distance::Near(0),
     }
 }
 
 // Tries all coins of a stored file within the limit: check 6, the file's checks, the totals.
 //
-// Ruled out: a reject count that is not the number of coins whose verdict is reject; 11 or 12 for a
-// file above the limit, since that gets 6 first.
+// Ruled out: a reject count that is not the number of coins whose verdict is reject; a number for a
+// word that no codeword is near; 11 or 12 for a file above the limit, since that gets 6 first.
 pub fn count(file: &[u8]) -> Counts
     ensures { λ r. ⌜ Told (now (file .entry)) r ⌝ }
 {

@@ -25,7 +25,7 @@ use Rattle.evaluation.specs.Words.{Taken, WordLanes}
 use Rattle.evaluation.proofs.WordLaws.{lanes-transposed, lanes-in-order}
 use Rattle.correction.specs.Candidate.{Found}
 use Rattle.correction.specs.Differences.{differences, differences-self}
-use Rattle.correction.specs.Near.{radius, Near, NearPoly, near-poly}
+use Rattle.correction.specs.Near.{radius, Near, NoneNear, NearPoly, near-poly}
 use Rattle.correction.specs.Nearest.{NearestWith}
 use Rattle.correction.specs.Start.{InSetting}
 
@@ -89,7 +89,7 @@ module _ {s : Setting} {word : List ℕ} (g : InSetting s word) (old work : List
             close = subst (λ (i : ℕ). differences word w ≤ radius i) long (omega (arith, counted));
           }
 
-      near-none : radius (length word) < count → (c : List ℕ) → Near K (length bs) bs word c → ⊥
+      near-none : radius (length word) < count → NoneNear K (length bs) bs word
       near-none h c near = by (near .codeword)
         where
           by : Codeword K (length bs) bs c → ⊥

@@ -14,7 +14,7 @@ use Rattle.space.specs.Early.{EarlyOf}
 use Rattle.correction.specs.declared.Correction.{Correction}
 use Rattle.correction.specs.declared.Correction.the-variants.{Corrected, Refused}
 use Rattle.correction.specs.Differences.{differences}
-use Rattle.correction.specs.Near.{Near}
+use Rattle.correction.specs.Near.{Near, NoneNear}
 use Rattle.correction.specs.Scratch.{correctionScratch}
 
 -- checks 6 and 7 at dimension k, of the lengths of the word, the output and the scratch
@@ -27,7 +27,7 @@ Early refusal k word corrected scratch r = EarlyOf (lengthChecks k word correcte
 
 -- checks 9 and 13
 abbrev pub nearChecks : ℕ → List ℕ → List ℕ → Checks
-nearChecks m bs word = (9, (Below (2 ^ degree m) word → ⊥)) ∷ (13, ((c : List ℕ) → Near (symbols m) (length bs) bs word c → ⊥)) ∷ []
+nearChecks m bs word = (9, (Below (2 ^ degree m) word → ⊥)) ∷ (13, NoneNear (symbols m) (length bs) bs word) ∷ []
 
 -- the checks of the call
 abbrev pub correctChecks : ℕ → List ℕ → List ℕ → ℕ → ℕ → Checks

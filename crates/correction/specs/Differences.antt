@@ -1,5 +1,5 @@
 -- The number of positions where two sequences differ, and the bound on the roots of a polynomial in terms of it.
-use mathlib.Core.Path.{_≡_, refl, sym, ap, _∙_}
+use mathlib.Core.Path.{_≡_, refl, sym, ap, ap₂, _∙_}
 use mathlib.Core.Logic.{_≢_}
 use mathlib.Core.List.{List, [], _∷_}
 use Prim.Native.Nat.{ℕ, zero, suc, _+_, _≤_, _<_}
@@ -29,6 +29,17 @@ differ a b = pick (eqb a b) 0 1
 pub differences-self : (xs : List ℕ) → differences xs xs ≡ 0
 differences-self [] = refl
 differences-self (x ∷ xs) = omega (arith, pick-true {A = ℕ} 0 1 (eq-eqb x x refl), differences-self xs)
+
+-- two lists of one length that differ nowhere are one
+pub differences-none : (xs ys : List ℕ) → length xs ≡ length ys → differences xs ys ≡ 0 → xs ≡ ys
+differences-none [] [] l h = refl
+differences-none [] (y ∷ ys) l h = absurd (omega arith)
+differences-none (x ∷ xs) [] l h = absurd (omega arith)
+differences-none (x ∷ xs) (y ∷ ys) l h = by (ℕ-discrete x y) (differences-none xs ys (omega arith) (omega arith))
+  where
+    by : Dec (x ≡ y) → xs ≡ ys → x ∷ xs ≡ y ∷ ys
+    by (yes e) same = ap₂ _∷_ e same
+    by (no n) same = absurd (omega (arith, pick-false {A = ℕ} 0 1 (ne-eqb x y n)))
 
 -- the number of i below n at which u and v differ
 abbrev pub differing : ℕ → (ℕ → ℕ) → (ℕ → ℕ) → ℕ

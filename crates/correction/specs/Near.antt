@@ -24,7 +24,11 @@ module _ (K : Ops) (k : ℕ) (b w : List ℕ) where
     pub codeword : Codeword K k b c
     pub close : differences w c ≤ radius (2 ^ k)
 
-  -- p is its polynomial
+  -- no codeword is that near
+  abbrev pub NoneNear : Type 0
+  NoneNear = (c : List ℕ) → Near c → ⊥
+
+  -- p is the polynomial of a near codeword
   pub record NearPoly (p : List ℕ) : Type 0 where
     pub count : length p ≡ 2 ^ (k - 3)
     pub elements : All (K .Sym) p

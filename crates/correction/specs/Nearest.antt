@@ -10,14 +10,14 @@ use Rattle.field.specs.Symbols.{symbols}
 use Rattle.space.specs.Ready.{Ready}
 use Rattle.space.specs.declared.Setting.{Setting}
 use Rattle.correction.specs.Differences.{differences}
-use Rattle.correction.specs.Near.{Near}
+use Rattle.correction.specs.Near.{Near, NoneNear}
 use Rattle.correction.specs.Scratch.{scratchWords}
 
 -- the near codeword with its number of differences; or 13, and the output as it came
 abbrev pub NearestWith : Setting → List ℕ → List ℕ → List ℕ → ℕ → ℕ → Type 0
 NearestWith s word old new r count =
     ((r ≡ 0) × ((bs : List ℕ) → Ready (s .field .modulus) bs s → Near (symbols (s .field .modulus)) (length bs) bs word new) × (count ≡ differences word new))
-    ⊎ ((r ≡ 13) × ((bs : List ℕ) → Ready (s .field .modulus) bs s → (c : List ℕ) → Near (symbols (s .field .modulus)) (length bs) bs word c → ⊥) × (new ≡ old))
+    ⊎ ((r ≡ 13) × ((bs : List ℕ) → Ready (s .field .modulus) bs s → NoneNear (symbols (s .field .modulus)) (length bs) bs word) × (new ≡ old))
 
 -- a setting that passed its checks, and the lengths that checks 6 and 7 ask for
 pub record InPlaces (s : Setting) (word corrected scratch : List ℕ) : Type 0 where

@@ -24,7 +24,7 @@ pub struct NearestAnswer {
 }
 
 // At how many positions the word differs from the one whose eight blocks are the lanes.
-pub fn differing(word: &[u16], size: usize, lanes: &[u16]) -> usize
+fn differing(word: &[u16], size: usize, lanes: &[u16]) -> usize
     requires { ⌜ (length (now word) ≡ 8 * size) × (length (now lanes) ≡ 8 * size) ⌝ }
     ensures { λ r. ⌜ r ≡ differences (now (word .entry)) (inOrder size (now (lanes .entry))) ⌝ }
 {

@@ -4,6 +4,8 @@ use mathlib.Core.List.{List}
 use Prim.Native.Nat.{ℕ, zero, suc, _+_, _%_}
 use lib.ListN.{getD}
 use Rattle.coins.specs.declared.Counts.{Counts}
+use Rattle.coins.specs.declared.Distance.{Distance}
+use Rattle.coins.specs.declared.Distance.the-variants as distance
 use Rattle.delivery.specs.declared.Made.{Made}
 use Rattle.delivery.specs.declared.Made.the-variants as made
 use Rattle.report.specs.declared.Entry.{Entry}
@@ -30,9 +32,14 @@ oneOf (suc (suc (suc zero))) a b c d e f = d
 oneOf (suc (suc (suc (suc zero)))) a b c d e f = e
 oneOf (suc (suc (suc (suc (suc n))))) a b c d e f = f
 
+-- the number of differences; 65536 for far
+abbrev pub offCode : Distance → ℕ
+offCode (distance.Near n) = n
+offCode distance.Far = 65536
+
 -- the counter's answer: the refusal, then k, the coins, the rejects, the most reads and off
 abbrev pub totalOf : Counts → ℕ → ℕ
-totalOf c n = oneOf n (c .refusal) (c .k) (c .coins) (c .rejects) (c .most) (c .off)
+totalOf c n = oneOf n (c .refusal) (c .k) (c .coins) (c .rejects) (c .most) (offCode (c .off))
 
 -- the report's answer on a file: the same up to the most reads, and where the file ends
 abbrev pub entryOf : Entry → ℕ → ℕ

@@ -1,5 +1,6 @@
 // The calls on stored files.
 use coins::Counts;
+use coins::Distance;
 use delivery::Made;
 use report::Entry;
 use stored::Outcome;
@@ -12,7 +13,7 @@ ghost use Rattle.delivery.specs.Message as making;
 ghost use Rattle.proximity.specs.Dim.{S};
 ghost use Rattle.stored.specs.File.{wordAt, proofAt, dimIn};
 ghost use Rattle.stored.specs.Writer.{Wrote};
-ghost use Rattle.exports.specs.Files.{writtenCode, madeCode, oneOf, totalOf, entryOf, PartByte};
+ghost use Rattle.exports.specs.Files.{writtenCode, madeCode, oneOf, offCode, totalOf, entryOf, PartByte};
 
 fn written_code(o: Outcome) -> u32
     ensures { λ r. ⌜ r ≡ writtenCode o ⌝ }
@@ -74,12 +75,30 @@ fn one_of(
     }
 }
 
+fn off_code(d: Distance) -> usize
+    ensures { λ r. ⌜ r ≡ offCode d ⌝ }
+{
+    match d {
+        Distance::Near(n) => n,
+        Distance::Far => 65536,
+    }
+}
+
 #[no_mangle]
 pub extern "C" fn proximity_total(file: &[u8], which: u32) -> u64
     ensures { λ r. ⌜ ((c : Counts) × totals.Told (now (file .entry)) c × (r ≡ totalOf c which)) ⌝ }
 {
     let c = coins::count(file);
-    one_of(which, c.refusal, c.k, c.coins, c.rejects, c.most, c.off)
+    let d = c.off;
+    one_of(
+        which,
+        c.refusal,
+        c.k,
+        c.coins,
+        c.rejects,
+        c.most,
+        off_code(d),
+    )
 }
 
 #[no_mangle]

@@ -150,6 +150,3 @@ module _ {K : Ops} (F : IsField K) (k : ℕ) (hk : 3 ≤ k) (b : List ℕ) (B : 
 
       pub codeword-values : (x : ℕ) → Sym x → evalX K b (k - 3) (blockCoeffs K k b w 0) x ≡ eval K p x
       codeword-values x s = ap (λ (d : List ℕ). evalX K b (k - 3) d x) same-coeffs ∙ novel-of p lp sp .values x s
-
-      pub codeword-powers : p ≡ monomials K b (k - 3) (blockCoeffs K k b w 0)
-      codeword-powers = sym (novel-of p lp sp .powers) ∙ ap (monomials K b (k - 3)) (sym same-coeffs)

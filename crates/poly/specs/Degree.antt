@@ -109,7 +109,6 @@ module _ {K : Ops} (F : IsField K) where
       pub coeffs : List ℕ
       pub count : length coeffs ≡ 2 ^ j
       pub elements : All Sym coeffs
-      pub powers : monomials K bs j coeffs ≡ p
       pub values : (x : ℕ) → Sym x → evalX K bs j coeffs x ≡ eval K p x
 
     pub to-novel : (j : ℕ) → j ≤ length bs → (p : List ℕ) → length p ≡ 2 ^ j → All Sym p → Novel j p
@@ -118,7 +117,6 @@ module _ {K : Ops} (F : IsField K) where
           coeffs = t .coeffs;
           count = t .count;
           elements = t .elements;
-          powers = same;
           values = λ x s. sym (eval-monomials bs j (t .coeffs) x s) ∙ ap (λ (q : List ℕ). eval K q x) same;
         }
       where

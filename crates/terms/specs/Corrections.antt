@@ -18,7 +18,7 @@ use Rattle.space.specs.Sound.{Sound, sound, sound-field, sound-passes, setting-
 use Rattle.correction.specs.Calls.{lengthChecks, nearChecks, correctChecks, CorrectedWord}
 use Rattle.correction.specs.Checks.{earlyChecks, early-numbered, corrected-sound, only-one}
 use Rattle.correction.specs.Differences.{differences, differences-self}
-use Rattle.correction.specs.Near.{radius, Near, one-near}
+use Rattle.correction.specs.Near.{radius, Near, NoneNear, one-near}
 use Rattle.correction.specs.Scratch.{correctionScratch}
 use Rattle.correction.specs.declared.Correction.{Correction}
 use Rattle.correction.specs.declared.Correction.the-variants.{Corrected, Refused}
@@ -64,7 +64,7 @@ module _ (m : ℕ) (bs : List ℕ) where
 
   -- ---- codewords
 
-  near-itself : (w : List ℕ) → Codeword (symbols m) (length bs) bs w → Near (symbols m) (length bs) bs w w
+  pub near-itself : (w : List ℕ) → Codeword (symbols m) (length bs) bs w → Near (symbols m) (length bs) bs w w
   near-itself w c = record { codeword = c; close = omega (arith, differences-self w) }
 
   -- it passes checks 9 and 10 of prover and decoder
@@ -72,6 +72,12 @@ module _ (m : ℕ) (bs : List ℕ) where
   codeword-passes s w c = word-passes m bs s (c .0) w (c .1) (c .2) (c .3)
 
   -- ---- past checks 1 to 7
+
+  pub early-right : Sound m bs → (w old scratch : List ℕ) → length w ≡ 2 ^ length bs → length old ≡ 2 ^ length bs → correctionScratch (length bs) ≤ length scratch
+      → Passes (earlyChecks m bs (length w) (length old) (length scratch))
+  early-right s w old scratch lw lo ls =
+      answers-after (settingChecks m bs) (lengthChecks (length bs) (length w) (length old) (length scratch)) 0 (setting-numbered m bs) (sound-passes m bs s)
+      (lengths-right (length w) (2 ^ length bs) (length old) (2 ^ length bs) (length scratch) (correctionScratch (length bs)) lw lo ls)
 
   module _ (w old new scratch left : List ℕ) (early : Passes (earlyChecks m bs (length w) (length old) (length scratch))) where
     -- checks 9 and 13 answer
@@ -93,7 +99,7 @@ module _ (m : ℕ) (bs : List ℕ) where
 
       -- the answer is 13 exactly when no codeword is near.
       pub thirteen-exactly : (u : Correction) → CorrectedWord m bs w old new scratch left u
-          → (u ≡ Refused 13) ↔ ((c : List ℕ) → Near (symbols m) (length bs) bs w c → ⊥)
+          → (u ≡ Refused 13) ↔ NoneNear (symbols m) (length bs) bs w
       thirteen-exactly u d = (
         (λ e c near. not-refused (checks w old scratch) (near-passes c near) (subst (CorrectedWord m bs w old new scratch left) e d .refuses)),
         λ none. by u d (later 13 (inr ((λ f. f in-range), inl (none, refl)))),
@@ -119,13 +125,8 @@ module _ (m : ℕ) (bs : List ℕ) where
     -- Correcting again, by a call with enough room, changes nothing.
     pub corrected-again : (v v′ t t′ : List ℕ) (u : Correction) → length v ≡ 2 ^ length bs → correctionScratch (length bs) ≤ length t
         → CorrectedWord m bs new v v′ t t′ u → (u ≡ Corrected 0) × (v′ ≡ new)
-    corrected-again v v′ t t′ u lv lt = codeword-itself new v v′ t t′ early (d .right .near .codeword) u
-      where
-        early : Passes (earlyChecks m bs (length new) (length v) (length t))
-        early =
-            answers-after (settingChecks m bs) (lengthChecks (length bs) (length new) (length v) (length t)) 0 (setting-numbered m bs) (sound-passes m bs setting)
-            (lengths-right (length new) (2 ^ length bs) (length v) (2 ^ length bs) (length t) (correctionScratch (length bs))
-            (length-word m bs setting (d .right .near .codeword .0) new (d .right .near .codeword .3)) lv lt)
+    corrected-again v v′ t t′ u lv lt =
+        codeword-itself new v v′ t t′ (early-right setting new v t (length-word m bs setting (d .right .near .codeword .0) new (d .right .near .codeword .3)) lv lt) (d .right .near .codeword) u
 
     -- a call that makes checks 1 to 7, then 9 and 10, gives none above 7
     up-to-seven : (cs : Checks) → Within 7 cs → (r : ℕ) → Answers (cs ++ wordChecks m bs new) r → r ≤ 7

@@ -16,5 +16,6 @@ pub mod Cases
 pub mod Files
 pub mod Parts
 pub mod Counts
+pub mod Distances
 pub mod Reports
 pub mod Deliveries

@@ -5,15 +5,14 @@ use Prim.Native.Nat.{ℕ, _^_, _≤_}
 use native.Mathlib.Omega.{arith}
 use lib.ListN.{length, take}
 use lib.Seq.{length-take-le}
-use Rattle.field.specs.Symbols.{symbols}
 use Rattle.stored.specs.Bytes.{numbersAt}
-use Rattle.stored.specs.CheckLaws.{read-passes, read-basis, read-images}
-use Rattle.stored.specs.File.{fileLimit, smallDim, modulusIn, dimIn, basisIn, wordIn}
+use Rattle.stored.specs.CheckLaws.{read-passes}
+use Rattle.stored.specs.File.{fileLimit, smallDim, modulusIn, basisIn, wordIn}
 use Rattle.stored.specs.declared.Reading.{Reading}
 use Rattle.coins.specs.Answer.{told-long, told-refused, told-totals}
 use Rattle.coins.specs.Tally.{Readable}
 use Rattle.coins.specs.Totals.{Off}
-use Rattle.coins.proofs.FileSymbols.{symbolCount, small, few-symbols, word-front, word-blocks, word-off}
+use Rattle.coins.proofs.FileSymbols.{symbolCount, small, few-symbols, word-front, word-set, word-off}
 use borrow.Author.Needs.{needs}
 use Rattle.coins.proofs.count.Statement.{statement}
 use Rattle.coins.proofs.count.Tie as tie
@@ -78,22 +77,16 @@ slice-aggregate-word c = sym (long (c .before .before))
 
 off-requires : tie.Need-off-requires
 off-requires c κs =
-    let t = c .before .before in (
-      word-blocks (bytes t) (found t) (read t) (short t) (word t) (word-is t),
-      omega (arith, long t, few t),
-    )
+    let t = c .before .before in
+    (word-set (bytes t) (found t) (read t) (short t) (word t) (word-is t), omega (arith, long t, few t))
 
--- what is off in the file's word
+-- how far the file's word is off
 module _ (c : tie.After-off) where
   abbrev decoded : tie.After-word-of
   decoded = c .before .before .before
 
-  word-differs : Off (symbols (modulusIn (bytes decoded))) (dimIn (bytes decoded)) (basisIn (bytes decoded)) (wordIn (bytes decoded)) (c .off .result)
-  word-differs =
-      let t = decoded in
-      let f = bytes t in
-      word-off f (found t) (read t) (short t) (word t) (c .off .result) (word-is t)
-      (c .off .ensures (basisIn f) (read-basis f (found t) (read t .0) (read t .1)) (read-images f (found t) (read t .0) (read t .1)))
+  word-differs : Off (modulusIn (bytes decoded)) (basisIn (bytes decoded)) (wordIn (bytes decoded)) (c .off .result)
+  word-differs = let t = decoded in word-off (bytes t) (found t) (read t) (short t) (word t) (c .off .result) (word-is t) (c .off .ensures)
 
 all-coins-requires : tie.Need-all-coins-requires
 all-coins-requires c κs = let t = decoded c in (read t, short t)

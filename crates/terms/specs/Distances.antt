@@ -1,0 +1,106 @@
+-- How far the word of a counted file is from the codewords: the counter's `off`. `Told f c` is the contract of coins' `count` for its answer c
+-- on the file f.
+use mathlib.Core.Path.{_≡_, refl, sym, ap, _∙_, subst, transport}
+use mathlib.Core.Logic.{_↔_, inl, inr}
+use mathlib.Core.List.{List, [], _∷_}
+use Prim.Native.Nat.{ℕ, _^_, _≤_}
+use native.Mathlib.Omega.{arith}
+use lib.ListN.{length}
+use Rattle.lists.specs.All.{Below}
+use Rattle.field.specs.Binary.{degree}
+use Rattle.field.specs.Symbols.{symbols}
+use Rattle.poly.specs.Codeword.{Codeword}
+use Rattle.space.specs.Sound.{Sound}
+use Rattle.codec.specs.RoundTrip.{length-word}
+use Rattle.correction.specs.Calls.{CorrectedWord}
+use Rattle.correction.specs.Differences.{differences, differences-self, differences-none}
+use Rattle.correction.specs.Near.{radius}
+use Rattle.correction.specs.Scratch.{correctionScratch}
+use Rattle.correction.specs.declared.Correction.{Correction}
+use Rattle.correction.specs.declared.Correction.the-variants.{Corrected, Refused}
+use Rattle.stored.specs.Accepted.{accepted}
+use Rattle.stored.specs.File.{modulusIn, basisIn, wordIn}
+use Rattle.coins.specs.Answer.{counted-file, word-length}
+use Rattle.coins.specs.OffLaws.{off-one}
+use Rattle.coins.specs.Totals.{Off, Told}
+use Rattle.coins.specs.declared.Counts.{Counts}
+use Rattle.coins.specs.declared.Distance.{Distance}
+use Rattle.coins.specs.declared.Distance.the-variants.{Near, Far}
+use Rattle.terms.specs.Corrections.{near-itself, early-right, near-found, thirteen-exactly}
+use Rattle.terms.specs.Counts.{no-rejects-exactly}
+
+-- what correction answers for a word so far off
+abbrev pub correctionAt : Distance → Correction
+correctionAt (Near n) = Corrected n
+correctionAt Far = Refused 13
+
+-- of a word of symbols, in a sound setting
+module _ (m : ℕ) (bs : List ℕ) (s : Sound m bs) (w : List ℕ) (lw : length w ≡ 2 ^ length bs) where
+  as-corrected : Below (2 ^ degree m) w → (d : Distance) → Off m bs w d → (old new scratch left : List ℕ) (u : Correction) → length old ≡ 2 ^ length bs
+      → correctionScratch (length bs) ≤ length scratch → CorrectedWord m bs w old new scratch left u → u ≡ correctionAt d
+  as-corrected h (Near n) (c, x) old new scratch left u lo ls t =
+      near-found m bs w old new scratch left (early-right m bs s w old scratch lw lo ls) h c (x .near) u t .0 ∙ ap Corrected (sym (x .count))
+  as-corrected h Far none old new scratch left u lo ls t = thirteen-exactly m bs w old new scratch left (early-right m bs s w old scratch lw lo ls) h u t .1 none
+
+  none-off : (d : Distance) → Off m bs w d → (d ≡ Near 0) ↔ Codeword (symbols m) (length bs) bs w
+  none-off d o = (
+    (λ e. by (subst (Off m bs w) e o)),
+    λ c. off-one m bs s w lw d (Near 0) o (w, record { near = near-itself m bs w c; count = sym (differences-self w) }),
+  )
+    where
+      by : Off m bs w (Near 0) → Codeword (symbols m) (length bs) bs w
+      by (c, x) =
+          let (p, lp, sp, e) = x .near .codeword in
+          subst (Codeword (symbols m) (length bs) bs) (sym (differences-none w c (lw ∙ sym (length-word m bs s p c e)) (sym (x .count)))) (x .near .codeword)
+
+  few-off : (n : ℕ) → Off m bs w (Near n) → n ≤ radius (2 ^ length bs)
+  few-off n (c, x) = omega (arith, x .count, x .near .close)
+
+-- a file that the counter does not refuse, and what it answers
+module _ (f : List ℕ) (c : Counts) (t : Told f c) (z : c .refusal ≡ 0) where
+  setting : Sound (modulusIn f) (basisIn f)
+  setting = by t
+    where
+      by : Told f c → Sound (modulusIn f) (basisIn f)
+      by (inl (p, y, u)) = accepted f (counted-file f p) .records .setting
+      by (inr ((l, a), e)) = absurd (omega arith)
+
+  in-range : Below (2 ^ degree (modulusIn f)) (wordIn f)
+  unfolding wordIn
+  in-range = by t
+    where
+      by : Told f c → Below (2 ^ degree (modulusIn f)) (wordIn f)
+      by (inl (p, y, u)) = accepted f (counted-file f p) .records .word .symbols
+      by (inr ((l, a), e)) = absurd (omega arith)
+
+  off : Off (modulusIn f) (basisIn f) (wordIn f) (c .off)
+  off = by t
+    where
+      by : Told f c → Off (modulusIn f) (basisIn f) (wordIn f) (c .off)
+      by (inl (p, y, u)) = u .off
+      by (inr ((l, a), e)) = absurd (omega arith)
+
+  -- It is what correction answers for the word of the file, by a call with room enough: the number of differences, or far for 13.
+  pub off-as-corrected : (old new scratch left : List ℕ) (u : Correction) → length old ≡ length (wordIn f) → correctionScratch (length (basisIn f)) ≤ length scratch
+      → CorrectedWord (modulusIn f) (basisIn f) (wordIn f) old new scratch left u → u ≡ correctionAt (c .off)
+  off-as-corrected old new scratch left u lo =
+      as-corrected (modulusIn f) (basisIn f) setting (wordIn f) (word-length f) in-range (c .off) off old new scratch left u (lo ∙ word-length f)
+
+  -- A number is within the radius;
+  pub off-within : (n : ℕ) → c .off ≡ Near n → n ≤ radius (2 ^ length (basisIn f))
+  off-within n e = few-off (modulusIn f) (basisIn f) setting (wordIn f) (word-length f) n (subst (Off (modulusIn f) (basisIn f) (wordIn f)) e off)
+
+  -- it is 0 exactly for a codeword,
+  pub zero-off-exactly : (c .off ≡ Near 0) ↔ Codeword (symbols (modulusIn f)) (length (basisIn f)) (basisIn f) (wordIn f)
+  zero-off-exactly = none-off (modulusIn f) (basisIn f) setting (wordIn f) (word-length f) (c .off) off
+
+  -- so where no coin rejects.
+  pub no-rejects-off : c .rejects ≡ 0 → c .off ≡ Near 0
+  no-rejects-off e = let (P, h) = no-rejects-exactly f c t z .0 e in zero-off-exactly .1 (P, h .count, h .elements, h .word)
+
+-- The word alone decides, with its setting: two counted files that have them in common are equally far off, whatever their proofs hold.
+pub off-by-word : (f g : List ℕ) (c d : Counts) → Told f c → c .refusal ≡ 0 → Told g d → d .refusal ≡ 0
+    → modulusIn f ≡ modulusIn g → basisIn f ≡ basisIn g → wordIn f ≡ wordIn g → c .off ≡ d .off
+off-by-word f g c d t z u y modulus basis word =
+    off-one (modulusIn g) (basisIn g) (setting g d u y) (wordIn g) (word-length g) (c .off) (d .off)
+    (transport (λ i. Off (modulus i) (basis i) (word i) (c .off)) (off f c t z)) (off g d u y)
