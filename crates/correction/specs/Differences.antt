@@ -6,7 +6,7 @@ use Prim.Native.Nat.{ℕ, zero, suc, _+_, _≤_, _<_}
 use native.Mathlib.Decide.{ℕ-discrete}
 use native.Mathlib.Omega.{arith}
 use lib.Dec.{eqb}
-use lib.ListN.{length, take, length-take}
+use lib.ListN.{length, getD, set, take, length-take}
 use borrow.Author.Tests.{eq-eqb, ne-eqb}
 use Rattle.lists.specs.All.{All, All-take, IsZero}
 use Rattle.lists.specs.Pick.{pick, pick-true, pick-false}
@@ -29,6 +29,12 @@ differ a b = pick (eqb a b) 0 1
 pub differences-self : (xs : List ℕ) → differences xs xs ≡ 0
 differences-self [] = refl
 differences-self (x ∷ xs) = omega (arith, pick-true {A = ℕ} 0 1 (eq-eqb x x refl), differences-self xs)
+
+-- a list differs at one position from the list with that symbol changed
+pub differences-set : (xs : List ℕ) (i x : ℕ) → i < length xs → x ≢ getD xs i 0 → differences (set xs i x) xs ≡ 1
+differences-set [] i x h n = absurd (omega arith)
+differences-set (y ∷ ys) zero x h n = omega (arith, pick-false {A = ℕ} 0 1 (ne-eqb x y n), differences-self ys)
+differences-set (y ∷ ys) (suc i) x h n = omega (arith, pick-true {A = ℕ} 0 1 (eq-eqb y y refl), differences-set ys i x (omega arith) n)
 
 -- two lists of one length that differ nowhere are one
 pub differences-none : (xs ys : List ℕ) → length xs ≡ length ys → differences xs ys ≡ 0 → xs ≡ ys

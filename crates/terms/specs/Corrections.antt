@@ -64,7 +64,7 @@ module _ (m : ℕ) (bs : List ℕ) where
 
   -- ---- codewords
 
-  pub near-itself : (w : List ℕ) → Codeword (symbols m) (length bs) bs w → Near (symbols m) (length bs) bs w w
+  near-itself : (w : List ℕ) → Codeword (symbols m) (length bs) bs w → Near (symbols m) (length bs) bs w w
   near-itself w c = record { codeword = c; close = omega (arith, differences-self w) }
 
   -- it passes checks 9 and 10 of prover and decoder

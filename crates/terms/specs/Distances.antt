@@ -3,17 +3,19 @@
 use mathlib.Core.Path.{_≡_, refl, sym, ap, _∙_, subst, transport}
 use mathlib.Core.Logic.{_↔_, inl, inr}
 use mathlib.Core.List.{List, [], _∷_}
-use Prim.Native.Nat.{ℕ, _^_, _≤_}
+use Prim.Native.Nat.{ℕ, _^_, _≤_, _<_}
+use native.Mathlib.Decide.{decLt}
 use native.Mathlib.Omega.{arith}
-use lib.ListN.{length}
+use lib.ListN.{length, set, getD-replicate}
 use Rattle.lists.specs.All.{Below}
-use Rattle.field.specs.Binary.{degree}
+use Rattle.field.specs.Binary.{_⊕_, product, degree}
 use Rattle.field.specs.Symbols.{symbols}
 use Rattle.poly.specs.Codeword.{Codeword}
 use Rattle.space.specs.Sound.{Sound}
+use Rattle.proximity.specs.Cases.{basis-8, fives}
 use Rattle.codec.specs.RoundTrip.{length-word}
 use Rattle.correction.specs.Calls.{CorrectedWord}
-use Rattle.correction.specs.Differences.{differences, differences-self, differences-none}
+use Rattle.correction.specs.Differences.{differences, differences-self, differences-set, differences-none}
 use Rattle.correction.specs.Near.{radius}
 use Rattle.correction.specs.Scratch.{correctionScratch}
 use Rattle.correction.specs.declared.Correction.{Correction}
@@ -26,7 +28,7 @@ use Rattle.coins.specs.Totals.{Off, Told}
 use Rattle.coins.specs.declared.Counts.{Counts}
 use Rattle.coins.specs.declared.Distance.{Distance}
 use Rattle.coins.specs.declared.Distance.the-variants.{Near, Far}
-use Rattle.terms.specs.Corrections.{near-itself, early-right, near-found, thirteen-exactly}
+use Rattle.terms.specs.Corrections.{early-right, near-found, thirteen-exactly}
 use Rattle.terms.specs.Counts.{no-rejects-exactly}
 
 -- what correction answers for a word so far off
@@ -34,26 +36,48 @@ abbrev pub correctionAt : Distance → Correction
 correctionAt (Near n) = Corrected n
 correctionAt Far = Refused 13
 
--- of a word of symbols, in a sound setting
+beyond : (x y : ℕ) → (x ≤ y → ⊥) → y < x
+beyond x y n = by (decLt y x)
+  where
+    by : Dec (y < x) → y < x
+    by (yes h) = h
+    by (no h) = absurd (n (omega arith))
+
+-- a word in a sound setting
 module _ (m : ℕ) (bs : List ℕ) (s : Sound m bs) (w : List ℕ) (lw : length w ≡ 2 ^ length bs) where
+  abbrev IsCodeword : List ℕ → Type 0
+  IsCodeword c = Codeword (symbols m) (length bs) bs c
+
+  abbrev most : ℕ
+  most = radius (2 ^ length bs)
+
   as-corrected : Below (2 ^ degree m) w → (d : Distance) → Off m bs w d → (old new scratch left : List ℕ) (u : Correction) → length old ≡ 2 ^ length bs
       → correctionScratch (length bs) ≤ length scratch → CorrectedWord m bs w old new scratch left u → u ≡ correctionAt d
   as-corrected h (Near n) (c, x) old new scratch left u lo ls t =
       near-found m bs w old new scratch left (early-right m bs s w old scratch lw lo ls) h c (x .near) u t .0 ∙ ap Corrected (sym (x .count))
   as-corrected h Far none old new scratch left u lo ls t = thirteen-exactly m bs w old new scratch left (early-right m bs s w old scratch lw lo ls) h u t .1 none
 
-  none-off : (d : Distance) → Off m bs w d → (d ≡ Near 0) ↔ Codeword (symbols m) (length bs) bs w
+  near-off : (d : Distance) → Off m bs w d → (c : List ℕ) → IsCodeword c → differences w c ≤ most → d ≡ Near (differences w c)
+  near-off d o c g h = off-one m bs s w lw d (Near (differences w c)) o (c, record { near = record { codeword = g; close = h }; count = refl })
+
+  far-off : (d : Distance) → Off m bs w d → (d ≡ Far) ↔ ((c : List ℕ) → IsCodeword c → most < differences w c)
+  far-off d o = (
+    (λ e c g. beyond (differences w c) most (λ h. subst (Off m bs w) e o c (record { codeword = g; close = h }))),
+    λ f. off-one m bs s w lw d Far o (λ c x. let l = f c (x .codeword) in omega (arith, x .close)),
+  )
+
+  none-off : (d : Distance) → Off m bs w d → (d ≡ Near 0) ↔ IsCodeword w
   none-off d o = (
     (λ e. by (subst (Off m bs w) e o)),
-    λ c. off-one m bs s w lw d (Near 0) o (w, record { near = near-itself m bs w c; count = sym (differences-self w) }),
+    λ c. near-off d o w c (omega (arith, differences-self w)) ∙ ap Near (differences-self w),
   )
     where
-      by : Off m bs w (Near 0) → Codeword (symbols m) (length bs) bs w
+      by : Off m bs w (Near 0) → IsCodeword w
       by (c, x) =
           let (p, lp, sp, e) = x .near .codeword in
           subst (Codeword (symbols m) (length bs) bs) (sym (differences-none w c (lw ∙ sym (length-word m bs s p c e)) (sym (x .count)))) (x .near .codeword)
 
-  few-off : (n : ℕ) → Off m bs w (Near n) → n ≤ radius (2 ^ length bs)
+  few-off : (n : ℕ) → Off m bs w (Near n) → n ≤ most
   few-off n (c, x) = omega (arith, x .count, x .near .close)
 
 -- a file that the counter does not refuse, and what it answers
@@ -86,6 +110,16 @@ module _ (f : List ℕ) (c : Counts) (t : Told f c) (z : c .refusal ≡ 0) where
   off-as-corrected old new scratch left u lo =
       as-corrected (modulusIn f) (basisIn f) setting (wordIn f) (word-length f) in-range (c .off) off old new scratch left u (lo ∙ word-length f)
 
+  -- A word that differs from a codeword at no more positions than the radius is off by their number, wherever they are;
+  pub damage-told : (v : List ℕ) → Codeword (symbols (modulusIn f)) (length (basisIn f)) (basisIn f) v → differences (wordIn f) v ≤ radius (2 ^ length (basisIn f))
+      → c .off ≡ Near (differences (wordIn f) v)
+  damage-told = near-off (modulusIn f) (basisIn f) setting (wordIn f) (word-length f) (c .off) off
+
+  -- it is far off exactly where it differs from each at more.
+  pub far-exactly : (c .off ≡ Far)
+      ↔ ((v : List ℕ) → Codeword (symbols (modulusIn f)) (length (basisIn f)) (basisIn f) v → radius (2 ^ length (basisIn f)) < differences (wordIn f) v)
+  far-exactly = far-off (modulusIn f) (basisIn f) setting (wordIn f) (word-length f) (c .off) off
+
   -- A number is within the radius;
   pub off-within : (n : ℕ) → c .off ≡ Near n → n ≤ radius (2 ^ length (basisIn f))
   off-within n e = few-off (modulusIn f) (basisIn f) setting (wordIn f) (word-length f) n (subst (Off (modulusIn f) (basisIn f) (wordIn f)) e off)
@@ -104,3 +138,10 @@ pub off-by-word : (f g : List ℕ) (c d : Counts) → Told f c → c .refusal �
 off-by-word f g c d t z u y modulus basis word =
     off-one (modulusIn g) (basisIn g) (setting g d u y) (wordIn g) (word-length g) (c .off) (d .off)
     (transport (λ i. Off (modulus i) (basis i) (word i) (c .off)) (off f c t z)) (off g d u y)
+
+-- The case of the request, by modulus 11 and basis 1, 2, 4: a word of 5 with one 6, at any position, is off by 1.
+pub one-six : (i : ℕ) → i < 8 → Off 11 basis-8 (set fives i 6) (Near 1)
+unfolding _⊕_ product degree
+one-six i h =
+    let one : differences (set fives i 6) fives ≡ 1 = differences-set fives i 6 h (λ e. omega (arith, getD-replicate {A = ℕ} 8 i 5 0 h)) in
+    (fives, record { near = record { codeword = (5 ∷ [], refl, (omega arith, tt), refl); close = omega arith }; count = sym one })
