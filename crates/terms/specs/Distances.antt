@@ -8,6 +8,7 @@ use native.Mathlib.Decide.{decLt}
 use native.Mathlib.Omega.{arith}
 use lib.ListN.{length, set, getD-replicate}
 use Rattle.lists.specs.All.{Below}
+use Rattle.lists.specs.Answers.{Passes}
 use Rattle.field.specs.Binary.{_⊕_, product, degree}
 use Rattle.field.specs.Symbols.{symbols}
 use Rattle.poly.specs.Codeword.{Codeword}
@@ -24,7 +25,7 @@ use Rattle.stored.specs.Accepted.{accepted}
 use Rattle.stored.specs.File.{modulusIn, basisIn, wordIn}
 use Rattle.coins.specs.Answer.{counted-file, word-length}
 use Rattle.coins.specs.OffLaws.{off-one}
-use Rattle.coins.specs.Totals.{Off, Told}
+use Rattle.coins.specs.Totals.{countChecks, Off, Totals, Told}
 use Rattle.coins.specs.declared.Counts.{Counts}
 use Rattle.coins.specs.declared.Distance.{Distance}
 use Rattle.coins.specs.declared.Distance.the-variants.{Near, Far}
@@ -48,8 +49,8 @@ module _ (m : ℕ) (bs : List ℕ) (s : Sound m bs) (w : List ℕ) (lw : length 
   abbrev IsCodeword : List ℕ → Type 0
   IsCodeword c = Codeword (symbols m) (length bs) bs c
 
-  abbrev most : ℕ
-  most = radius (2 ^ length bs)
+  abbrev bound : ℕ
+  bound = radius (2 ^ length bs)
 
   as-corrected : Below (2 ^ degree m) w → (d : Distance) → Off m bs w d → (old new scratch left : List ℕ) (u : Correction) → length old ≡ 2 ^ length bs
       → correctionScratch (length bs) ≤ length scratch → CorrectedWord m bs w old new scratch left u → u ≡ correctionAt d
@@ -57,12 +58,12 @@ module _ (m : ℕ) (bs : List ℕ) (s : Sound m bs) (w : List ℕ) (lw : length 
       near-found m bs w old new scratch left (early-right m bs s w old scratch lw lo ls) h c (x .near) u t .0 ∙ ap Corrected (sym (x .count))
   as-corrected h Far none old new scratch left u lo ls t = thirteen-exactly m bs w old new scratch left (early-right m bs s w old scratch lw lo ls) h u t .1 none
 
-  near-off : (d : Distance) → Off m bs w d → (c : List ℕ) → IsCodeword c → differences w c ≤ most → d ≡ Near (differences w c)
+  near-off : (d : Distance) → Off m bs w d → (c : List ℕ) → IsCodeword c → differences w c ≤ bound → d ≡ Near (differences w c)
   near-off d o c g h = off-one m bs s w lw d (Near (differences w c)) o (c, record { near = record { codeword = g; close = h }; count = refl })
 
-  far-off : (d : Distance) → Off m bs w d → (d ≡ Far) ↔ ((c : List ℕ) → IsCodeword c → most < differences w c)
+  far-off : (d : Distance) → Off m bs w d → (d ≡ Far) ↔ ((c : List ℕ) → IsCodeword c → bound < differences w c)
   far-off d o = (
-    (λ e c g. beyond (differences w c) most (λ h. subst (Off m bs w) e o c (record { codeword = g; close = h }))),
+    (λ e c g. beyond (differences w c) bound (λ h. subst (Off m bs w) e o c (record { codeword = g; close = h }))),
     λ f. off-one m bs s w lw d Far o (λ c x. let l = f c (x .codeword) in omega (arith, x .close)),
   )
 
@@ -77,32 +78,27 @@ module _ (m : ℕ) (bs : List ℕ) (s : Sound m bs) (w : List ℕ) (lw : length 
           let (p, lp, sp, e) = x .near .codeword in
           subst (Codeword (symbols m) (length bs) bs) (sym (differences-none w c (lw ∙ sym (length-word m bs s p c e)) (sym (x .count)))) (x .near .codeword)
 
-  few-off : (n : ℕ) → Off m bs w (Near n) → n ≤ most
+  few-off : (n : ℕ) → Off m bs w (Near n) → n ≤ bound
   few-off n (c, x) = omega (arith, x .count, x .near .close)
 
 -- a file that the counter does not refuse, and what it answers
 module _ (f : List ℕ) (c : Counts) (t : Told f c) (z : c .refusal ≡ 0) where
-  setting : Sound (modulusIn f) (basisIn f)
-  setting = by t
+  counted : Passes (countChecks f) × Totals f c
+  counted = by t
     where
-      by : Told f c → Sound (modulusIn f) (basisIn f)
-      by (inl (p, y, u)) = accepted f (counted-file f p) .records .setting
+      by : Told f c → Passes (countChecks f) × Totals f c
+      by (inl (p, y, u)) = (p, u)
       by (inr ((l, a), e)) = absurd (omega arith)
+
+  setting : Sound (modulusIn f) (basisIn f)
+  setting = accepted f (counted-file f (counted .0)) .records .setting
 
   in-range : Below (2 ^ degree (modulusIn f)) (wordIn f)
   unfolding wordIn
-  in-range = by t
-    where
-      by : Told f c → Below (2 ^ degree (modulusIn f)) (wordIn f)
-      by (inl (p, y, u)) = accepted f (counted-file f p) .records .word .symbols
-      by (inr ((l, a), e)) = absurd (omega arith)
+  in-range = accepted f (counted-file f (counted .0)) .records .word .symbols
 
   off : Off (modulusIn f) (basisIn f) (wordIn f) (c .off)
-  off = by t
-    where
-      by : Told f c → Off (modulusIn f) (basisIn f) (wordIn f) (c .off)
-      by (inl (p, y, u)) = u .off
-      by (inr ((l, a), e)) = absurd (omega arith)
+  off = counted .1 .off
 
   -- It is what correction answers for the word of the file, by a call with room enough: the number of differences, or far for 13.
   pub off-as-corrected : (old new scratch left : List ℕ) (u : Correction) → length old ≡ length (wordIn f) → correctionScratch (length (basisIn f)) ≤ length scratch
