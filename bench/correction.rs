@@ -21,7 +21,7 @@ fn codeword(f: &Field, basis: &[u16]) -> Vec<u16> {
 }
 
 /// A word with so many symbols changed.
-fn damaged(word: &[u16], count: usize) -> Vec<u16> {
+pub fn damaged(word: &[u16], count: usize) -> Vec<u16> {
     let mut w = word.to_vec();
     (0..count).for_each(|i| w[i * 40503 % word.len()] ^= noise(i) | 1);
     w

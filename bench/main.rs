@@ -160,20 +160,28 @@ fn stored_file(f: &plain::Field, basis: &[u16]) -> Vec<u8> {
     file::bytes_of(MODULUS, basis, &w, &pi)
 }
 
-/// All coins of a stored file at k = 8, and the host kit's call at k = 12.
-fn stored(f: &plain::Field, basis: &[u16]) {
-    let bytes = stored_file(f, &basis[..8]);
-    let held = file::read(&bytes).ok().expect("the file is accepted");
-    let space = plain::Space::new(f, &basis[..8]);
-    assert_eq!((1..6).map(|i| calls::total(&bytes, i)).collect::<Vec<_>>(), [8, 2048, 0, 64, 0]);
+/// The counter's call on a stored file at k = 8 with so many symbols of the word changed: all coins, and the correction of the word.
+fn counted(f: &plain::Field, basis: &[u16], count: usize) {
+    let (x, space) = (file::read(&stored_file(f, basis)).ok().expect("the file is accepted"), plain::Space::new(f, basis));
+    let word = correction::damaged(&x.word, count);
+    let bytes = file::bytes_of(MODULUS, basis, &word, &x.proof);
+    let right = file::count(&bytes).expect("the file is accepted");
+    assert_eq!(right.off, (count <= 112).then_some(count));
+    let (rejects, off) = (right.numbers[2], right.off.map_or(65536, |n| n as u64));
+    assert_eq!([3, 5].map(|i| calls::total(&bytes, i)), [rejects, off]);
     let [proved, fast] = times([
-        &mut |_| assert_eq!(calls::total(&bytes, 3), 0),
-        &mut |_| assert!((0..2048).all(|c| plain::check(f, &space, &held.word, &held.proof, c))),
+        &mut |_| assert_eq!(calls::total(&bytes, 5), off),
+        &mut |_| {
+            assert_eq!((0..2048).filter(|c| !plain::check(f, &space, &word, &x.proof, *c)).count() as u64, rejects);
+            assert_eq!(gao::correct(f, &space, &word).map(|y| y.1), right.off);
+        },
     ]);
-    let counts = file::Counts { numbers: [8, 2048, 0, 64], off: Some(0) };
-    let slow = time(|_| assert_eq!(file::count(&bytes), Ok(counts)));
-    println!("\nall 2048 coins of a stored file at k = 8: proved {:.3} ms, log tables {:.3} ms, model {:.1} ms", proved / 1e6, fast / 1e6, slow / 1e6);
+    let slow = time(|_| assert_eq!(file::count(&bytes), Ok(right)));
+    println!("  {count:3} symbols changed: proved {:.3} ms, log tables {:.3} ms, model {:.0} ms", proved / 1e6, fast / 1e6, slow / 1e6);
+}
 
+/// The host kit's call at k = 12.
+fn stored(f: &plain::Field, basis: &[u16]) {
     let bytes = stored_file(f, basis);
     let [proved, fast] = times([
         &mut |i| assert_eq!(calls::check_file(&bytes, coin_at(12, i)).0, 0),
@@ -237,6 +245,8 @@ fn main() {
         table(name, "k", &rows.iter().map(|r| r[i]).collect::<Vec<_>>());
     }
     let corrections = correction::all(&f, &basis);
+    println!("\na stored file at k = 8 counted: its 2048 coins, and the correction of its word");
+    [0, 1, 112, 128].into_iter().for_each(|count| counted(&f, &basis[..8], count));
     stored(&f, &basis);
     streams(&f, &basis);
     for (path, charts) in std::env::args().skip(1).zip([&[encoding(&rows)][..], &corrections]) {
