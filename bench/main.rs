@@ -166,7 +166,7 @@ fn counted(f: &plain::Field, basis: &[u16], count: usize) {
     let word = correction::damaged(&x.word, count);
     let bytes = file::bytes_of(MODULUS, basis, &word, &x.proof);
     let right = file::count(&bytes).expect("the file is accepted");
-    assert_eq!(right.off, (count <= 112).then_some(count));
+    assert_eq!(right.off, (count <= nearest::radius(word.len())).then_some(count));
     let (rejects, off) = (right.numbers[2], right.off.map_or(65536, |n| n as u64));
     assert_eq!([3, 5].map(|i| calls::total(&bytes, i)), [rejects, off]);
     let [proved, fast] = times([

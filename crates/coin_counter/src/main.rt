@@ -25,7 +25,7 @@ fn line(label: &[u8], n: u64) -> bool {
         && io::write_all(STDOUT_FILENO, b"\n")
 }
 
-// The line of the word's distance.
+// Whether the line of the word's distance is written.
 fn off(d: Distance) -> bool {
     match d {
         Distance::Near(n) => line(b"off ", n as u64),

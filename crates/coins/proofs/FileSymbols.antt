@@ -10,11 +10,11 @@ use Rattle.lists.specs.All.{Below}
 use Rattle.lists.specs.Answers.{Passes}
 use Rattle.lists.specs.Tables.{length-tab}
 use Rattle.field.specs.Binary.{degree}
-use Rattle.proximity.specs.Dim.{S}
-use Rattle.verifier.proofs.Laws.{one-shifted}
 use Rattle.space.specs.Ready.{Ready}
 use Rattle.space.specs.Usable.{own-ready}
 use Rattle.correction.specs.Start.{InSetting}
+use Rattle.proximity.specs.Dim.{S}
+use Rattle.verifier.proofs.Laws.{one-shifted}
 use Rattle.stored.specs.Accepted.{accepted, read-places}
 use Rattle.stored.specs.Bytes.{twoAt, numbersAt}
 use Rattle.stored.specs.CheckLaws.{read-passes, read-ready, read-dimension, read-below}

@@ -3,13 +3,13 @@
 use mathlib.Core.Path.{_≡_, refl, sym, ap, _∙_, subst, transport}
 use mathlib.Core.Logic.{_↔_, inl, inr}
 use mathlib.Core.List.{List, [], _∷_}
-use Prim.Native.Nat.{ℕ, _^_, _≤_, _<_}
-use native.Mathlib.Decide.{decLt}
+use Prim.Native.Nat.{ℕ, suc, _^_, _≤_, _<_}
 use native.Mathlib.Omega.{arith}
 use lib.ListN.{length, set, getD-replicate}
 use Rattle.lists.specs.All.{Below}
 use Rattle.lists.specs.Answers.{Passes}
 use Rattle.field.specs.Binary.{_⊕_, product, degree}
+use Rattle.field.specs.Checks.{not-less}
 use Rattle.field.specs.Symbols.{symbols}
 use Rattle.poly.specs.Codeword.{Codeword}
 use Rattle.space.specs.Sound.{Sound}
@@ -37,13 +37,6 @@ abbrev pub correctionAt : Distance → Correction
 correctionAt (Near n) = Corrected n
 correctionAt Far = Refused 13
 
-beyond : (x y : ℕ) → (x ≤ y → ⊥) → y < x
-beyond x y n = by (decLt y x)
-  where
-    by : Dec (y < x) → y < x
-    by (yes h) = h
-    by (no h) = absurd (n (omega arith))
-
 -- a word in a sound setting
 module _ (m : ℕ) (bs : List ℕ) (s : Sound m bs) (w : List ℕ) (lw : length w ≡ 2 ^ length bs) where
   abbrev IsCodeword : List ℕ → Type 0
@@ -63,7 +56,7 @@ module _ (m : ℕ) (bs : List ℕ) (s : Sound m bs) (w : List ℕ) (lw : length 
 
   far-off : (d : Distance) → Off m bs w d → (d ≡ Far) ↔ ((c : List ℕ) → IsCodeword c → bound < differences w c)
   far-off d o = (
-    (λ e c g. beyond (differences w c) bound (λ h. subst (Off m bs w) e o c (record { codeword = g; close = h }))),
+    (λ e c g. not-less {x = differences w c} {y = suc bound} (λ h. subst (Off m bs w) e o c (record { codeword = g; close = omega arith }))),
     λ f. off-one m bs s w lw d Far o (λ c x. let l = f c (x .codeword) in omega (arith, x .close)),
   )
 
