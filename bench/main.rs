@@ -15,6 +15,7 @@ mod nearest;
 #[path = "../tests/independent/calls.rs"]
 #[allow(dead_code)]
 mod calls;
+mod branch;
 mod correction;
 mod gao;
 mod plain;
@@ -77,10 +78,6 @@ fn field(basis: &[u16]) {
     let (f, mut y, mut z) = (plain::Field::new(MODULUS), 3u16, 3u16);
     println!("  model                           {:10.1} ns", time(|_| y = model::mul(MODULUS, y | 1, 40503)));
     println!("  log tables                      {:10.1} ns", time(|_| z = f.mul(z | 1, 40503)));
-    let factors: Vec<u16> = (0..4096u32).map(|i| (i * 40503) as u16).collect();
-    let mut values: Vec<u16> = (0..8192u32).map(|i| (i * 25717) as u16).collect();
-    let one = time(|_| assert_eq!(calls::products(MODULUS, &factors, &mut values), 0));
-    println!("a product in a list of 4096       {:10.2} ns", one / 4096.0);
     println!("checks 1 to 5 at l = 16, k = 12   {:10.1} ns", time(|_| assert_eq!(calls::setting(MODULUS, basis), 0)));
     println!("  model                           {:10.1} ns", time(|_| assert_eq!(model::setting(MODULUS, basis), 0)));
 }
@@ -238,6 +235,7 @@ fn encoding(rows: &[[Row; 4]]) -> plot::Chart {
 fn main() {
     let basis: Vec<u16> = (0..12).map(|i| 1 << i).collect();
     field(&basis);
+    branch::all();
     let f = plain::Field::new(MODULUS);
     let rows: Vec<[Row; 4]> = (7..=12).map(|k| dimension(&f, &basis[..k])).collect();
     let names = ["encode", "decode", "prove", "one coin on a checked setting: the difference of the two times above"];

@@ -9,6 +9,7 @@ mod files;
 mod largest;
 mod model;
 mod nearest;
+mod reduction;
 mod report;
 mod stream;
 mod symbols;
@@ -141,6 +142,7 @@ pub fn outside(m: u32, xs: &[u16]) -> bool {
 fn main() {
     let mut t = Tally::default();
     symbols::all(&mut t);
+    reduction::all(&mut t);
     codec::all(&mut t);
     correction::all(&mut t);
     largest::all(&mut t);

@@ -20,7 +20,7 @@ pub fn degree_of(v: u32) -> u32
 }
 
 // Long division of v by d, from the highest bit of v down to that of d. The bit is a number, times
-// the shifted divisor: no branch.
+// the shifted divisor. Compiled, this was a branch in `irreducible` and none in `inverse`.
 pub fn divide(v: u32, d: u32) -> Division
     requires { ⌜ (v < 131072) × (0 < d) × (d < 131072) ⌝ }
     ensures { λ r. ⌜ Divided v d (r .quotient) (r .remainder) ⌝ }
