@@ -58,4 +58,5 @@ pub fn all() {
     });
     row("random symbols", &random.collect::<Vec<_>>());
     row("zeros", &vec![0; 3 * COUNT]);
+    println!();
 }
