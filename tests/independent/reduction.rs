@@ -1,7 +1,7 @@
 //! Products of which some steps reduce and others do not: all of the small fields, and those of 2 and of x^(l-1) in fields of each size.
 use crate::{calls, model, modulus, Draw, Tally};
 
-/// All symbols of a field, the first three once more, so that their number is none of eights.
+/// All symbols of a field, the first three once more, so that their number is no multiple of eight.
 fn symbols(l: u32) -> Vec<u16> {
     (0..(1u32 << l) + 3).map(|i| (i % (1 << l)) as u16).collect()
 }
