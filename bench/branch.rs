@@ -2,7 +2,8 @@
 //! without and with a branch on whether to add the modulus.
 use crate::{calls, times, MODULUS};
 
-/// Products in a call. The choices of 4096 products, which come back in each call, were learned by the processor; of 16384 they were not.
+/// Products in a call. The same choices come back in each call: with 4096 products the branch took 12 ns, with 16384 and more 47 to 48,
+/// as if the processor learned the few and not the many.
 const COUNT: usize = 65536;
 
 /// The double of a symbol of 16 bits; m is the modulus without its bit 16.
