@@ -10,10 +10,12 @@ use Rattle.lists.specs.Decides.{decides-true, decides-false}
 use Rattle.lists.specs.Lanes.{lane-ext, lane-each, place-fits, lane}
 use Rattle.lists.specs.Stretch.{stretch}
 use Rattle.field.specs.Binary.{degree}
+use Rattle.field.specs.Laws.{IsField}
 use Rattle.field.specs.Symbols.{symbols}
 use Rattle.poly.specs.Poly.{eval}
 use Rattle.poly.specs.Novel.{evalX}
 use Rattle.poly.specs.Codeword.{wordOf, Codeword}
+use Rattle.poly.specs.Shift.{wordAt, word-at-back}
 use Rattle.poly.specs.Blocks.{codeword-values}
 use Rattle.space.specs.Ready.{Ready}
 use Rattle.space.specs.Usable.{Usable, usable, ready-field, ready-basis}
@@ -23,8 +25,9 @@ use Rattle.transform.proofs.BlockLaws.{eight}
 use Rattle.novel.specs.Novel.{PowersOf}
 use Rattle.novel.specs.Settings.{steps-of, inverses-of}
 use Rattle.evaluation.proofs.WordLaws.{same-word}
-use Rattle.codec.specs.Words.{InBlockZero}
-use Rattle.codec.specs.Calls.{CoefficientsOf}
+use Rattle.novel.specs.Translate.{Translated}
+use Rattle.codec.specs.Words.{InBlockZero, CoefficientsOf}
+use Rattle.codec.specs.Calls.{CoefficientsAt}
 
 module _ {s : Setting} {bs : List ℕ} (r : Ready (s .field .modulus) bs s) where
   abbrev q : ℕ
@@ -77,3 +80,9 @@ module _ {s : Setting} (u : Usable s) (word work rest : List ℕ) (lw : length w
     tested-none e c =
         decides-false (Codeword (symbols (s .field .modulus)) (s .space .k) bs word) (t .decides bs (ready-basis r) (r .images)) e
         (subst (λ (i : ℕ). Codeword (symbols (s .field .modulus)) i bs word) (sym (r .dimension)) c)
+
+-- ---- the shift
+
+-- coefficients of P(x + σ), and then those of P
+pub coefficients-at : {q : ℕ} → IsField (symbols q) → (σ : ℕ) (bs word p new : List ℕ) → Translated q σ p new → CoefficientsOf q bs word p → CoefficientsAt q bs σ word new
+coefficients-at F σ bs word p new t c = record { count = t .kept ∙ c .count; elements = t .below; word-is = c .word-is ∙ word-at-back F σ (length bs) bs p new (t .values) }

@@ -9,7 +9,7 @@ use Rattle.lists.specs.Answers.{Checks}
 use Rattle.lists.specs.Calls.{Accepted, RefusedWith}
 use Rattle.field.specs.Binary.{degree}
 use Rattle.field.specs.Symbols.{symbols}
-use Rattle.poly.specs.Codeword.{wordOf, Codeword}
+use Rattle.poly.specs.Shift.{wordAt, CodewordAt}
 use Rattle.space.specs.Setting.{settingChecks}
 use Rattle.space.specs.Early.{EarlyOf}
 use Rattle.codec.specs.declared.Outcome.{Outcome}
@@ -28,17 +28,17 @@ Early refusal k coefficients word scratch r = EarlyOf (lengthChecks k coefficien
 abbrev pub symbolChecks : ℕ → List ℕ → Checks
 symbolChecks m xs = (9, (Below (2 ^ degree m) xs → ⊥)) ∷ []
 
--- checks 9 and 10
-abbrev pub wordChecks : ℕ → List ℕ → List ℕ → Checks
-wordChecks m bs word = (9, (Below (2 ^ degree m) word → ⊥)) ∷ (10, (Codeword (symbols m) (length bs) bs word → ⊥)) ∷ []
+-- checks 9 and 10, at the shift σ
+abbrev pub wordChecks : ℕ → List ℕ → ℕ → List ℕ → Checks
+wordChecks m bs σ word = (9, (Below (2 ^ degree m) word → ⊥)) ∷ (10, (CodewordAt (symbols m) σ (length bs) bs word → ⊥)) ∷ []
 
 -- the checks of the encoder
-abbrev pub encodeChecks : ℕ → List ℕ → List ℕ → ℕ → ℕ → Checks
-encodeChecks m bs coefficients word scratch = settingChecks m bs ++ lengthChecks (length bs) (length coefficients) word scratch ++ symbolChecks m coefficients
+abbrev pub encodeChecks : ℕ → List ℕ → ℕ → List ℕ → ℕ → ℕ → Checks
+encodeChecks m bs σ coefficients word scratch = settingChecks m bs σ ++ lengthChecks (length bs) (length coefficients) word scratch ++ symbolChecks m coefficients
 
 -- the checks of the decoder
-abbrev pub decodeChecks : ℕ → List ℕ → List ℕ → ℕ → ℕ → Checks
-decodeChecks m bs word coefficients scratch = settingChecks m bs ++ lengthChecks (length bs) coefficients (length word) scratch ++ wordChecks m bs word
+abbrev pub decodeChecks : ℕ → List ℕ → ℕ → List ℕ → ℕ → ℕ → Checks
+decodeChecks m bs σ word coefficients scratch = settingChecks m bs σ ++ lengthChecks (length bs) coefficients (length word) scratch ++ wordChecks m bs σ word
 
 -- the outcome by its number
 unfoldable pub outcomeOf : ℕ → Outcome
@@ -50,18 +50,18 @@ abbrev pub Told : Checks → (List ℕ → Type 0) → List ℕ → List ℕ →
 Told cs Right old new scratch left Done = Accepted cs Right new scratch left
 Told cs Right old new scratch left (Refused n) = RefusedWith cs n old new scratch left
 
--- the word of the coefficients
-abbrev pub Encoded : ℕ → List ℕ → List ℕ → List ℕ → List ℕ → List ℕ → List ℕ → Outcome → Type 0
-Encoded m bs coefficients old new scratch left =
-    Told (encodeChecks m bs coefficients (length old) (length scratch)) (λ w. w ≡ wordOf (symbols m) (length bs) bs coefficients) old new scratch left
+-- the word of the coefficients at the shift
+abbrev pub Encoded : ℕ → List ℕ → ℕ → List ℕ → List ℕ → List ℕ → List ℕ → List ℕ → Outcome → Type 0
+Encoded m bs σ coefficients old new scratch left =
+    Told (encodeChecks m bs σ coefficients (length old) (length scratch)) (λ w. w ≡ wordAt (symbols m) σ (length bs) bs coefficients) old new scratch left
 
--- p is the coefficients of the codeword: there are n/8, and the codeword is theirs. No others have it: `decode-unique`
-pub record CoefficientsOf (m : ℕ) (bs word p : List ℕ) : Type 0 where
+-- p is the coefficients of the codeword at the shift: there are n/8, and the codeword is theirs. No others have it: `decode-unique-at`
+pub record CoefficientsAt (m : ℕ) (bs : List ℕ) (σ : ℕ) (word p : List ℕ) : Type 0 where
   pub count : length p ≡ 2 ^ (length bs - 3)
   pub elements : All (symbols m .Sym) p
-  pub word-is : word ≡ wordOf (symbols m) (length bs) bs p
+  pub word-is : word ≡ wordAt (symbols m) σ (length bs) bs p
 
--- the coefficients of the word
-abbrev pub Decoded : ℕ → List ℕ → List ℕ → List ℕ → List ℕ → List ℕ → List ℕ → Outcome → Type 0
-Decoded m bs word old new scratch left =
-    Told (decodeChecks m bs word (length old) (length scratch)) (CoefficientsOf m bs word) old new scratch left
+-- the coefficients of the word at the shift
+abbrev pub Decoded : ℕ → List ℕ → ℕ → List ℕ → List ℕ → List ℕ → List ℕ → List ℕ → Outcome → Type 0
+Decoded m bs σ word old new scratch left =
+    Told (decodeChecks m bs σ word (length old) (length scratch)) (CoefficientsAt m bs σ word) old new scratch left

@@ -7,9 +7,9 @@ use Rattle.lists.specs.Answers.{Checks, Numbered}
 use Rattle.space.specs.Setting.{settingChecks}
 use Rattle.codec.specs.Calls.{lengthChecks}
 
-module _ (m : ℕ) (bs : List ℕ) (a b s : ℕ) where
+module _ (m : ℕ) (bs : List ℕ) (σ a b s : ℕ) where
   abbrev pub earlyChecks : Checks
-  earlyChecks = settingChecks m bs ++ lengthChecks (length bs) a b s
+  earlyChecks = settingChecks m bs σ ++ lengthChecks (length bs) a b s
 
   pub early-numbered : Numbered earlyChecks
-  early-numbered = (omega arith, (omega arith, (omega arith, (omega arith, (omega arith, (omega arith, (omega arith, tt)))))))
+  early-numbered = (omega arith, (omega arith, (omega arith, (omega arith, (omega arith, (omega arith, (omega arith, (omega arith, tt))))))))

@@ -4,14 +4,15 @@ use mathlib.Core.Logic.{_⊎_}
 use mathlib.Core.List.{List}
 use Prim.Native.Nat.{ℕ, _-_, _^_, _≤_}
 use lib.ListN.{length}
-use Rattle.lists.specs.All.{Below}
+use Rattle.lists.specs.All.{All, Below}
 use Rattle.field.specs.Binary.{degree}
 use Rattle.field.specs.Symbols.{symbols}
 use Rattle.poly.specs.Codeword.{wordOf, Codeword}
+use Rattle.poly.specs.Shift.{wordAt, CodewordAt}
 use Rattle.poly.specs.Blocks.{blockCoeffs}
 use Rattle.space.specs.Ready.{Ready}
 use Rattle.space.specs.declared.Setting.{Setting}
-use Rattle.codec.specs.Calls.{CoefficientsOf}
+use Rattle.codec.specs.Calls.{CoefficientsAt}
 use Rattle.transform.specs.Blocks.{block}
 use Rattle.codec.specs.Scratch.{scratchFor}
 
@@ -27,17 +28,23 @@ InBlockZero s bs word scratch =
     Below (2 ^ degree (s .field .modulus)) word × (length word ≡ 2 ^ s .space .k) × Codeword (symbols (s .field .modulus)) (s .space .k) bs word
     × (block (s .space .k) 0 scratch ≡ blockCoeffs (symbols (s .field .modulus)) (s .space .k) bs word 0)
 
+-- p is the coefficients of the codeword without a shift
+pub record CoefficientsOf (m : ℕ) (bs word p : List ℕ) : Type 0 where
+  pub count : length p ≡ 2 ^ (length bs - 3)
+  pub elements : All (symbols m .Sym) p
+  pub word-is : word ≡ wordOf (symbols m) (length bs) bs p
+
 -- the word of the coefficients; or 9, and the word as it came
 abbrev pub EncodedWith : Setting → List ℕ → List ℕ → List ℕ → ℕ → Type 0
 EncodedWith s p old new r =
     ((r ≡ 0) × Below (2 ^ degree (s .field .modulus)) p
-    × ((bs : List ℕ) → Ready (s .field .modulus) bs s → new ≡ wordOf (symbols (s .field .modulus)) (length bs) bs p))
+    × ((bs : List ℕ) → Ready (s .field .modulus) bs s → new ≡ wordAt (symbols (s .field .modulus)) (s .shift) (length bs) bs p))
     ⊎ ((r ≡ 9) × (Below (2 ^ degree (s .field .modulus)) p → ⊥) × (new ≡ old))
 
 -- the coefficients of the word; or 9 or 10, and the coefficients as they came
 abbrev pub DecodedWith : Setting → List ℕ → List ℕ → List ℕ → ℕ → Type 0
 DecodedWith s word old new r =
-    ((r ≡ 0) × Below (2 ^ degree (s .field .modulus)) word × ((bs : List ℕ) → Ready (s .field .modulus) bs s → CoefficientsOf (s .field .modulus) bs word new))
+    ((r ≡ 0) × Below (2 ^ degree (s .field .modulus)) word × ((bs : List ℕ) → Ready (s .field .modulus) bs s → CoefficientsAt (s .field .modulus) bs (s .shift) word new))
     ⊎ (((r ≡ 9) × (Below (2 ^ degree (s .field .modulus)) word → ⊥) × (new ≡ old))
     ⊎ ((r ≡ 10) × Below (2 ^ degree (s .field .modulus)) word
-    × ((bs : List ℕ) → Ready (s .field .modulus) bs s → Codeword (symbols (s .field .modulus)) (length bs) bs word → ⊥) × (new ≡ old)))
+    × ((bs : List ℕ) → Ready (s .field .modulus) bs s → CodewordAt (symbols (s .field .modulus)) (s .shift) (length bs) bs word → ⊥) × (new ≡ old)))

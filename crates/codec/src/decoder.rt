@@ -1,6 +1,7 @@
 // From a codeword to its coefficients, in a setting that passed its checks.
 use field::modulus::all_symbols;
 use novel::powers_of;
+use novel::translate::shift_powers;
 use space::Setting;
 use transform::blocks::is_codeword;
 use transform::slices::copy;
@@ -14,15 +15,14 @@ ghost use Rattle.lists.specs.Lanes.{lane};
 ghost use Rattle.field.specs.Binary.{degree};
 ghost use Rattle.space.specs.Ready.{Ready};
 ghost use Rattle.space.specs.Usable.{Usable};
-ghost use Rattle.codec.specs.Words.{Lengths, InBlockZero, DecodedWith};
-ghost use Rattle.codec.specs.Calls.{CoefficientsOf};
+ghost use Rattle.codec.specs.Words.{Lengths, InBlockZero, CoefficientsOf, DecodedWith};
 ghost use Rattle.codec.specs.Scratch.{scratchFor};
 
-// The coefficients of a codeword, from those of its blocks over the novel basis, which are the first
+// The coefficients of a codeword without the shift, from those of its blocks over the novel basis, which are the first
 // lanes of the scratch.
 fn read_coefficients(s: Setting, coefficients: &mut [u16], scratch: &mut [u16])
     requires { ⌜ Usable s × (length (now coefficients) ≡ 2 ^ (s .space .k - 3)) × (scratchFor (s .space .k) ≤ length (now scratch)) × Below (2 ^ degree (s .field .modulus)) (lane 8 0 (2 ^ (s .space .k - 3)) (now scratch)) ⌝ }
-    ensures { λ _. ⌜ ((bs : List ℕ) → Ready (s .field .modulus) bs s → (word : List ℕ) → InBlockZero s bs word (now (scratch .entry)) → CoefficientsOf (s .field .modulus) bs word (now (coefficients .exit))) ⌝ }
+    ensures { λ _. ⌜ Below (2 ^ degree (s .field .modulus)) (now (coefficients .exit)) × ((bs : List ℕ) → Ready (s .field .modulus) bs s → (word : List ℕ) → InBlockZero s bs word (now (scratch .entry)) → CoefficientsOf (s .field .modulus) bs word (now (coefficients .exit))) ⌝ }
 {
     let f = s.field;
     let steps = s.steps;
@@ -34,7 +34,7 @@ fn read_coefficients(s: Setting, coefficients: &mut [u16], scratch: &mut [u16])
     copy(&scratch[size..end], coefficients);
 }
 
-// Checks 9 and 10, then the coefficients.
+// Checks 9 and 10, then the coefficients: those of P(x + shift), and from them those of P.
 pub fn decode_with(s: Setting, word: &[u16], coefficients: &mut [u16], scratch: &mut [u16]) -> u8
     requires { ⌜ Usable s × Lengths s (now coefficients) (now word) (now scratch) ⌝ }
     ensures { λ r. ⌜ DecodedWith s (now (word .entry)) (now (coefficients .entry)) (now (coefficients .exit)) r ⌝ }
@@ -45,6 +45,7 @@ pub fn decode_with(s: Setting, word: &[u16], coefficients: &mut [u16], scratch: 
     if all_symbols(f, word) {
         if is_codeword(f, &images, s.space.k, word, &mut scratch[..n]) {
             read_coefficients(s, coefficients, scratch);
+            shift_powers(f, s.shift, s.space.k - 3, coefficients);
             return 0;
         }
         return 10;

@@ -64,7 +64,7 @@ pub fn finish(number: u8, scratch: &mut [u16]) -> Outcome
     Outcome::Refused(number)
 }
 
-// The word of the coefficients.
+// The word of the coefficients: P at the shift plus element i in position i.
 //
 // Ruled out: a word that is left as it came where the call is done, since it is that of the
 // coefficients; refusal 6 where the lengths are right and the scratch is short, since 7 is then
@@ -72,13 +72,14 @@ pub fn finish(number: u8, scratch: &mut [u16]) -> Outcome
 pub fn encode(
     modulus: u32,
     basis: &[u16],
+    shift: u16,
     coefficients: &[u16],
     word: &mut [u16],
     scratch: &mut [u16],
 ) -> Outcome
-    ensures { λ r. ⌜ Encoded modulus (now (basis .entry)) (now (coefficients .entry)) (now (word .entry)) (now (word .exit)) (now (scratch .entry)) (now (scratch .exit)) r ⌝ }
+    ensures { λ r. ⌜ Encoded modulus (now (basis .entry)) shift (now (coefficients .entry)) (now (word .entry)) (now (word .exit)) (now (scratch .entry)) (now (scratch .exit)) r ⌝ }
 {
-    let checked = space::check(modulus, basis);
+    let checked = space::check(modulus, basis, shift);
     let first = checked.refusal;
     let s = checked.setting;
     let refusal = early_refusal(
@@ -94,20 +95,21 @@ pub fn encode(
     Outcome::Refused(refusal)
 }
 
-// The coefficients of a codeword.
+// The coefficients of P, from a codeword that holds P at the shift plus element i in position i.
 //
 // Ruled out: refusal 10 for a word of zeros, which is a codeword; coefficients whose word differs
 // from the given one in a symbol.
 pub fn decode(
     modulus: u32,
     basis: &[u16],
+    shift: u16,
     word: &[u16],
     coefficients: &mut [u16],
     scratch: &mut [u16],
 ) -> Outcome
-    ensures { λ r. ⌜ Decoded modulus (now (basis .entry)) (now (word .entry)) (now (coefficients .entry)) (now (coefficients .exit)) (now (scratch .entry)) (now (scratch .exit)) r ⌝ }
+    ensures { λ r. ⌜ Decoded modulus (now (basis .entry)) shift (now (word .entry)) (now (coefficients .entry)) (now (coefficients .exit)) (now (scratch .entry)) (now (scratch .exit)) r ⌝ }
 {
-    let checked = space::check(modulus, basis);
+    let checked = space::check(modulus, basis, shift);
     let first = checked.refusal;
     let s = checked.setting;
     let refusal = early_refusal(

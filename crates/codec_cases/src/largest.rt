@@ -1,5 +1,5 @@
-// There and back at dimension 12 over GF(2^16), and the word with another last symbol. Of the output
-// a digest is shown.
+// There and back at dimension 12 over GF(2^16), with the shift 0 and with another. Of the output a
+// digest is shown.
 use super::outcome;
 use case_lines::cleared;
 use case_lines::figure;
@@ -61,25 +61,29 @@ fn basis() -> [u16; 12] {
     ]
 }
 
-fn encode(word: &mut [u16], scratch: &mut [u16]) {
+fn encode(label: &[u8], shift: u16, word: &mut [u16], scratch: &mut [u16]) {
     let mut coefficients = small_room();
     fill(&mut coefficients);
-    let r = codec::encode(69643, &basis(), &coefficients, word, scratch);
-    show(b"encode 12:", r, word, scratch);
+    let r = codec::encode(69643, &basis(), shift, &coefficients, word, scratch);
+    show(label, r, word, scratch);
 }
 
-fn decode(label: &[u8], word: &[u16], scratch: &mut [u16]) {
+fn decode(label: &[u8], shift: u16, word: &[u16], scratch: &mut [u16]) {
     let mut coefficients = small_room();
-    let r = codec::decode(69643, &basis(), word, &mut coefficients, scratch);
+    let r = codec::decode(69643, &basis(), shift, word, &mut coefficients, scratch);
     show(label, r, &coefficients, scratch);
 }
 
-// There and back, and the word with another last symbol.
+// There and back, and the word with another last symbol; there and back at a shift, and what the word
+// gives without it.
 pub fn largest() {
     let mut word = word_room();
     let mut scratch = scratch_room();
-    encode(&mut word, &mut scratch);
-    decode(b"decode 12:", &word, &mut scratch);
+    encode(b"encode 12:", 0, &mut word, &mut scratch);
+    decode(b"decode 12:", 0, &word, &mut scratch);
     word[4095] ^= 1;
-    decode(b"decode 12, last symbol changed:", &word, &mut scratch);
+    decode(b"decode 12, last symbol changed:", 0, &word, &mut scratch);
+    encode(b"encode 12 at 43981:", 43981, &mut word, &mut scratch);
+    decode(b"decode 12 at 43981:", 43981, &word, &mut scratch);
+    decode(b"decode 12 at 0:", 0, &word, &mut scratch);
 }

@@ -1,6 +1,6 @@
 // Cases as text. A case is a line of parts: its label, which a colon ends, then 0 to encode or 1 to
-// decode, the modulus, the basis, the coefficients or the word, the length of the output and that of
-// the scratch, which semicolons end. A space stands before each number.
+// decode, the modulus, the basis, the shift, the coefficients or the word, the length of the output and
+// that of the scratch, which semicolons end. A space stands before each number.
 use case_lines::one_if;
 ghost use Prim.Native.Nat.{_≤_};
 ghost use Rattle.io.specs.Counts.{Counts};

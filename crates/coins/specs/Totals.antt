@@ -6,7 +6,7 @@ use Prim.Native.Nat.{ℕ, zero, suc, _^_, _<_, max}
 use lib.ListN.{length}
 use Rattle.lists.specs.Answers.{Checks, Passes, Refuses}
 use Rattle.field.specs.Symbols.{symbols}
-use Rattle.correction.specs.Calls.{Corrects}
+use Rattle.correction.specs.Differences.{differences}
 use Rattle.correction.specs.Near.{NoneNear}
 use Rattle.proximity.specs.Dim.{R}
 use Rattle.verifier.specs.Checker.{readsOf}
@@ -39,9 +39,14 @@ pub record Swept (f : List ℕ) (k coins rejects most : ℕ) : Type 0 where
 
 -- ---- the word
 
+-- c is the near codeword of w, and n the number of its differences; a file has the shift 0, so no shift is named
+pub record OffBy (m : ℕ) (bs w : List ℕ) (n : ℕ) (c : List ℕ) : Type 0 where
+  pub near : Rattle.correction.specs.Near.Near (symbols m) (length bs) bs w c
+  pub count : n ≡ differences w c
+
 -- how far a word is from the codewords, by its correction: the number of differences that it finds, or far where it refuses with 13
 abbrev pub Off : ℕ → List ℕ → List ℕ → Distance → Type 0
-Off m bs w (Near n) = (c : List ℕ) × Corrects m bs w n c
+Off m bs w (Near n) = (c : List ℕ) × OffBy m bs w n c
 Off m bs w Far = NoneNear (symbols m) (length bs) bs w
 
 -- ---- the answer

@@ -14,7 +14,7 @@ use Rattle.space.specs.Early.{EarlyOf}
 use Rattle.correction.specs.declared.Correction.{Correction}
 use Rattle.correction.specs.declared.Correction.the-variants.{Corrected, Refused}
 use Rattle.correction.specs.Differences.{differences}
-use Rattle.correction.specs.Near.{Near, NoneNear}
+use Rattle.correction.specs.Near.{NearAt, NoneNearAt}
 use Rattle.correction.specs.Scratch.{correctionScratch}
 
 -- checks 6 and 7 at dimension k, of the lengths of the word, the output and the scratch
@@ -26,12 +26,12 @@ abbrev pub Early : ℕ → ℕ → ℕ → ℕ → ℕ → ℕ → Type 0
 Early refusal k word corrected scratch r = EarlyOf (lengthChecks k word corrected scratch) refusal r
 
 -- checks 9 and 13
-abbrev pub nearChecks : ℕ → List ℕ → List ℕ → Checks
-nearChecks m bs word = (9, (Below (2 ^ degree m) word → ⊥)) ∷ (13, NoneNear (symbols m) (length bs) bs word) ∷ []
+abbrev pub nearChecks : ℕ → List ℕ → ℕ → List ℕ → Checks
+nearChecks m bs σ word = (9, (Below (2 ^ degree m) word → ⊥)) ∷ (13, NoneNearAt (symbols m) σ (length bs) bs word) ∷ []
 
 -- the checks of the call
-abbrev pub correctChecks : ℕ → List ℕ → List ℕ → ℕ → ℕ → Checks
-correctChecks m bs word corrected scratch = settingChecks m bs ++ lengthChecks (length bs) (length word) corrected scratch ++ nearChecks m bs word
+abbrev pub correctChecks : ℕ → List ℕ → ℕ → List ℕ → ℕ → ℕ → Checks
+correctChecks m bs σ word corrected scratch = settingChecks m bs σ ++ lengthChecks (length bs) (length word) corrected scratch ++ nearChecks m bs σ word
 
 -- the answer by its numbers
 unfoldable pub correctionOf : ℕ → ℕ → Correction
@@ -39,11 +39,11 @@ correctionOf zero count = Corrected count
 correctionOf (suc n) count = Refused (suc n)
 
 -- c is the near codeword, and n the number of its differences from the word
-pub record Corrects (m : ℕ) (bs word : List ℕ) (n : ℕ) (c : List ℕ) : Type 0 where
-  pub near : Near (symbols m) (length bs) bs word c
+pub record Corrects (m : ℕ) (bs : List ℕ) (σ : ℕ) (word : List ℕ) (n : ℕ) (c : List ℕ) : Type 0 where
+  pub near : NearAt (symbols m) σ (length bs) bs word c
   pub count : n ≡ differences word c
 
 -- what an answer says of the output and of the scratch
-abbrev pub CorrectedWord : ℕ → List ℕ → List ℕ → List ℕ → List ℕ → List ℕ → List ℕ → Correction → Type 0
-CorrectedWord m bs word old new scratch left (Corrected n) = Accepted (correctChecks m bs word (length old) (length scratch)) (Corrects m bs word n) new scratch left
-CorrectedWord m bs word old new scratch left (Refused n) = RefusedWith (correctChecks m bs word (length old) (length scratch)) n old new scratch left
+abbrev pub CorrectedWord : ℕ → List ℕ → ℕ → List ℕ → List ℕ → List ℕ → List ℕ → List ℕ → Correction → Type 0
+CorrectedWord m bs σ word old new scratch left (Corrected n) = Accepted (correctChecks m bs σ word (length old) (length scratch)) (Corrects m bs σ word n) new scratch left
+CorrectedWord m bs σ word old new scratch left (Refused n) = RefusedWith (correctChecks m bs σ word (length old) (length scratch)) n old new scratch left

@@ -1,5 +1,6 @@
 -- The codeword within the radius of a word: there is at most one.
 use mathlib.Core.Path.{_≡_, sym, ap, _∙_, subst}
+use mathlib.Core.Logic.{_↔_}
 use mathlib.Core.List.{List}
 use Prim.Native.Nat.{ℕ, _+_, _*_, _-_, _/_, _^_, _≤_}
 use native.Mathlib.Omega.{arith}
@@ -11,6 +12,7 @@ use Rattle.poly.specs.Poly.{eval, addP, length-addP, eval-addP, addP-sym, zeros
 use Rattle.poly.specs.Span.{elem, elem-sym}
 use Rattle.poly.specs.Blocks.{eighths}
 use Rattle.poly.specs.Codeword.{Basis, wordOf, Codeword, basis-distinct}
+use Rattle.poly.specs.Shift.{CodewordAt, codeword-shift}
 use Rattle.correction.specs.Coefficients.{coeff}
 use Rattle.correction.specs.Differences.{differences, differing, differing-le, differing-triangle, differing-sym, differences-differing, root-count}
 
@@ -33,6 +35,22 @@ module _ (K : Ops) (k : ℕ) (b w : List ℕ) where
     pub count : length p ≡ 2 ^ (k - 3)
     pub elements : All (K .Sym) p
     pub close : differing (2 ^ k) (coeff w) (λ i. eval K p (elem K b i)) ≤ radius (2 ^ k)
+
+module _ (K : Ops) (σ k : ℕ) (b w : List ℕ) where
+  -- the same with the elements shifted by σ
+  pub record NearAt (c : List ℕ) : Type 0 where
+    pub codeword : CodewordAt K σ k b c
+    pub close : differences w c ≤ radius (2 ^ k)
+
+  abbrev pub NoneNearAt : Type 0
+  NoneNearAt = (c : List ℕ) → NearAt c → ⊥
+
+-- near at each shift or at none
+pub near-shift : {K : Ops} → IsField K → (σ : ℕ) → K .Sym σ → (k : ℕ) (b w c : List ℕ) → NearAt K σ k b w c ↔ Near K k b w c
+near-shift F σ sσ k b w c = (
+  (λ h. record { codeword = codeword-shift F σ sσ k b c .0 (h .codeword); close = h .close }),
+  λ h. record { codeword = codeword-shift F σ sσ k b c .1 (h .codeword); close = h .close },
+)
 
 module _ (K : Ops) (k : ℕ) (b w : List ℕ) (lw : length w ≡ 2 ^ k) where
   -- the differences from the word of a polynomial

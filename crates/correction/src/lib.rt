@@ -70,20 +70,21 @@ fn finish(r: NearestAnswer, scratch: &mut [u16]) -> Correction
 }
 
 // The codeword that differs from the word in at most 7/16 of its positions, rounded down. There is
-// never more than one (`one-near`).
+// never more than one (`one-near`). Past check 4 the shift changes nothing: the codewords are the same.
 //
 // Ruled out: a codeword that is not the near one, or a number that is not that of its differences;
 // refusal 13 for a word with a near codeword; an output that a refused call has changed.
 pub fn correct(
     modulus: u32,
     basis: &[u16],
+    shift: u16,
     word: &[u16],
     corrected: &mut [u16],
     scratch: &mut [u16],
 ) -> Correction
-    ensures { λ r. ⌜ CorrectedWord modulus (now (basis .entry)) (now (word .entry)) (now (corrected .entry)) (now (corrected .exit)) (now (scratch .entry)) (now (scratch .exit)) r ⌝ }
+    ensures { λ r. ⌜ CorrectedWord modulus (now (basis .entry)) shift (now (word .entry)) (now (corrected .entry)) (now (corrected .exit)) (now (scratch .entry)) (now (scratch .exit)) r ⌝ }
 {
-    let checked = space::check(modulus, basis);
+    let checked = space::check(modulus, basis, shift);
     let first = checked.refusal;
     let s = checked.setting;
     let refusal = early_refusal(

@@ -27,7 +27,7 @@ fn scratch_room() -> [u16; 4096] {
     [7u16; 4096]
 }
 
-fn case(label: &[u8], end: usize) {
+fn case(label: &[u8], shift: u16, end: usize) {
     let mut word = [0u16; 256];
     let mut corrected = [9u16; 256];
     let mut scratch = scratch_room();
@@ -35,6 +35,7 @@ fn case(label: &[u8], end: usize) {
     let r = correction::correct(
         283,
         &[1, 2, 4, 8, 16, 32, 64, 128],
+        shift,
         &word,
         &mut corrected,
         &mut scratch,
@@ -46,7 +47,9 @@ fn case(label: &[u8], end: usize) {
 }
 
 pub fn large() {
-    case(b"x + 7", 0);
-    case(b"x + 7, 112 others", 224);
-    case(b"x + 7, 113 others", 226);
+    case(b"x + 7", 0, 0);
+    case(b"x + 7, 112 others", 0, 224);
+    case(b"x + 7, 113 others", 0, 226);
+    case(b"x + 7, shift 200, 112 others", 200, 224);
+    case(b"x + 7, shift 200, 113 others", 200, 226);
 }

@@ -22,11 +22,12 @@ fn call(
     label: &[u8],
     modulus: u32,
     basis: &[u16],
+    shift: u16,
     word: &[u16],
     corrected: &mut [u16],
     scratch: &mut [u16],
 ) {
-    let r = correction::correct(modulus, basis, word, corrected, scratch);
+    let r = correction::correct(modulus, basis, shift, word, corrected, scratch);
     answer(label, r);
     io::write_all(STDOUT_FILENO, b",");
     numbers(corrected);
@@ -36,39 +37,47 @@ fn call(
 // ---- what is lent
 
 // For any setting what one of dimension 3 takes.
-fn setting(label: &[u8], modulus: u32, basis: &[u16], word: &[u16]) {
+fn setting(label: &[u8], modulus: u32, basis: &[u16], shift: u16, word: &[u16]) {
     let mut corrected = [9u16; 8];
     let mut scratch = [7u16; 128];
-    call(label, modulus, basis, word, &mut corrected, &mut scratch);
+    call(
+        label,
+        modulus,
+        basis,
+        shift,
+        word,
+        &mut corrected,
+        &mut scratch,
+    );
 }
 
 // Dimension 3: a codeword is 8 times one symbol, and 3 differences are corrected.
 fn eight(label: &[u8], word: &[u16]) {
-    setting(label, 11, &[1, 2, 4], word);
+    setting(label, 11, &[1, 2, 4], 0, word);
 }
 
 // Dimension 4: a codeword is a + b x, and 7 differences are corrected.
 fn sixteen(label: &[u8], modulus: u32, basis: &[u16], word: &[u16]) {
     let mut corrected = [9u16; 16];
     let mut scratch = [7u16; 256];
-    call(label, modulus, basis, word, &mut corrected, &mut scratch);
+    call(label, modulus, basis, 0, word, &mut corrected, &mut scratch);
 }
 
 fn short_scratch(label: &[u8], word: &[u16]) {
     let mut corrected = [9u16; 8];
     let mut scratch = [7u16; 127];
-    call(label, 11, &[1, 2, 4], word, &mut corrected, &mut scratch);
+    call(label, 11, &[1, 2, 4], 0, word, &mut corrected, &mut scratch);
 }
 
 fn long_scratch(label: &[u8], word: &[u16]) {
     let mut corrected = [9u16; 8];
     let mut scratch = [7u16; 200];
-    call(label, 11, &[1, 2, 4], word, &mut corrected, &mut scratch);
+    call(label, 11, &[1, 2, 4], 0, word, &mut corrected, &mut scratch);
 }
 
 fn output(label: &[u8], corrected: &mut [u16]) {
     let mut scratch = [7u16; 128];
-    call(label, 11, &[1, 2, 4], &[5; 8], corrected, &mut scratch);
+    call(label, 11, &[1, 2, 4], 0, &[5; 8], corrected, &mut scratch);
 }
 
 // ---- the cases
@@ -128,21 +137,46 @@ fn words_of_sixteen() {
 fn settings() {
     let basis = [1u16, 2, 4];
     let word = [5u16; 8];
-    setting(b"modulus 7", 7, &basis, &word);
-    setting(b"modulus 131072", 131072, &basis, &word);
-    setting(b"modulus 15", 15, &basis, &word);
-    setting(b"modulus 7, no basis", 7, &[], &word);
-    setting(b"basis of 2", 11, &[1, 2], &word);
+    setting(b"modulus 7", 7, &basis, 0, &word);
+    setting(b"modulus 131072", 131072, &basis, 0, &word);
+    setting(b"modulus 15", 15, &basis, 0, &word);
+    setting(b"modulus 7, no basis", 7, &[], 0, &word);
+    setting(b"basis of 2", 11, &[1, 2], 0, &word);
     setting(
         b"basis of 13",
         65579,
         &[1, 2, 4, 8, 16, 32, 64, 128, 256, 512, 1024, 2048, 4096],
+        0,
         &word,
     );
-    setting(b"basis with 8", 11, &[1, 2, 8], &word);
-    setting(b"dependent basis", 11, &[1, 2, 3], &word);
-    setting(b"basis with 0", 11, &[0, 1, 2], &word);
-    setting(b"dependent basis, word of 7", 11, &[1, 2, 3], &[5; 7]);
+    setting(b"basis with 8", 11, &[1, 2, 8], 0, &word);
+    setting(b"dependent basis", 11, &[1, 2, 3], 0, &word);
+    setting(b"basis with 0", 11, &[0, 1, 2], 0, &word);
+    setting(b"dependent basis, word of 7", 11, &[1, 2, 3], 0, &[5; 7]);
+}
+
+// The codewords are the same at each shift.
+fn shifts() {
+    let basis = [1u16, 2, 4];
+    setting(
+        b"shift 7, 3 others",
+        11,
+        &basis,
+        7,
+        &[5, 0, 5, 7, 5, 5, 5, 1],
+    );
+    setting(
+        b"shift 7, 4 others",
+        11,
+        &basis,
+        7,
+        &[5, 0, 5, 7, 5, 2, 5, 1],
+    );
+    setting(b"shift 8", 11, &basis, 8, &[5; 8]);
+    setting(b"basis of 2, shift 8", 11, &[1, 2], 8, &[5; 8]);
+    setting(b"dependent basis, shift 7", 11, &[1, 2, 3], 7, &[5; 8]);
+    setting(b"dependent basis, shift 8", 11, &[1, 2, 3], 8, &[5; 8]);
+    setting(b"shift 8, word of 7", 11, &basis, 8, &[5; 7]);
 }
 
 fn outputs() {
@@ -155,6 +189,7 @@ fn outputs() {
         b"output of 9, scratch of 127",
         11,
         &[1, 2, 4],
+        0,
         &[5; 8],
         &mut nine,
         &mut scratch,
@@ -187,6 +222,7 @@ fn main() {
     words_of_eight();
     words_of_sixteen();
     settings();
+    shifts();
     lengths();
     symbols();
     large::large();

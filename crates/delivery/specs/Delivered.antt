@@ -24,7 +24,7 @@ module _ (t old : List ℕ) where
   abbrev checks : Checks
   checks = messageChecks t (length old)
 
-  message-sound : Passes checks → Sound (modulusIn t) (basisIn t)
+  message-sound : Passes checks → Sound (modulusIn t) (basisIn t) 0
   message-sound p = message-passed t (length old) p .0 .setting .sound
 
   -- the bytes written fit

@@ -13,9 +13,9 @@ use Rattle.stored.specs.Passed.{Head, Held}
 use Rattle.prover.specs.Calls.{ProofOf}
 use Rattle.delivery.specs.Message.{coefficientRecordAt}
 
--- a sound setting whose stored file is within the limit
+-- a sound setting without a shift, whose stored file is within the limit
 pub record Small (m : ℕ) (bs : List ℕ) : Type 0 where
-  pub sound : Sound m bs
+  pub sound : Sound m bs 0
   pub few : length bs ≤ smallDim
 
 -- n/8 coefficients

@@ -1,5 +1,5 @@
 -- Past the checks of a message no call on the way is refused: encoder, prover and writer do what they say. Assumes nothing.
-use mathlib.Core.Path.{_≡_, refl, ap, _∙_}
+use mathlib.Core.Path.{_≡_, refl, sym, ap, _∙_}
 use mathlib.Core.Logic.{_⊎_, inl, inr}
 use mathlib.Core.List.{List, _++_}
 use Prim.Native.Nat.{ℕ, _-_, _^_, _≤_}
@@ -11,6 +11,7 @@ use Rattle.field.specs.Laws.{IsField}
 use Rattle.field.specs.Symbols.{symbols}
 use Rattle.poly.specs.Codeword.{wordOf, Codeword}
 use Rattle.poly.specs.Poly.{eval}
+use Rattle.poly.specs.Shift.{word-at-zero}
 use Rattle.poly.specs.Span.{elem}
 use Rattle.space.specs.Setting.{settingChecks}
 use Rattle.space.specs.Sound.{Sound, sound-field, sound-passes, setting-numbered}
@@ -24,6 +25,7 @@ use Rattle.codec.specs.RoundTrip.{word-passes}
 use Rattle.codec.specs.declared.Outcome.{Outcome}
 use Rattle.codec.specs.declared.Outcome.the-variants.{Done, Refused}
 use Rattle.prover.specs.Calls.{proveChecks, ProofOf, Proven}
+use Rattle.prover.specs.Determined.{proof-shift}
 use Rattle.stored.specs.File.{fileOf, fileEnd}
 use Rattle.stored.specs.Whole.{Delivery}
 use Rattle.stored.specs.Writer.{writerChecks, Wrote}
@@ -31,9 +33,12 @@ use Rattle.stored.specs.WriterLaws.{range-answer}
 use Rattle.delivery.specs.Parts.{Coefficients}
 use Rattle.codec.specs.Scratch.{scratchFor}
 
-module _ (m : ℕ) (bs : List ℕ) (s : Sound m bs) where
+module _ (m : ℕ) (bs : List ℕ) (s : Sound m bs 0) where
   abbrev k : ℕ
   k = length bs
+
+  F : IsField (symbols m)
+  F = sound-field s
 
   pub length-word : (xs w : List ℕ) → w ≡ wordOf (symbols m) k bs xs → length w ≡ 2 ^ k
   length-word xs w e = ap length e ∙ length-tab (2 ^ k) (λ i. eval (symbols m) xs (elem (symbols m) bs i))
@@ -41,37 +46,37 @@ module _ (m : ℕ) (bs : List ℕ) (s : Sound m bs) where
   -- ---- the encoder
 
   pub encoded : (xs old new scratch left : List ℕ) (r : Outcome) → Coefficients m bs xs → length old ≡ 2 ^ k → scratchFor k ≤ length scratch
-      → Encoded m bs xs old new scratch left r → new ≡ wordOf (symbols m) k bs xs
+      → Encoded m bs 0 xs old new scratch left r → new ≡ wordOf (symbols m) k bs xs
   encoded xs old new scratch left r c lo ls = by r
     where
-      fine : Passes (encodeChecks m bs xs (length old) (length scratch))
+      fine : Passes (encodeChecks m bs 0 xs (length old) (length scratch))
       fine =
-          answers-after (earlyChecks m bs (length xs) (length old) (length scratch)) (symbolChecks m xs) 0 (early-numbered m bs (length xs) (length old) (length scratch))
-          (answers-after (settingChecks m bs) (Rattle.codec.specs.Calls.lengthChecks k (length xs) (length old) (length scratch)) 0 (setting-numbered m bs) (sound-passes m bs s)
+          answers-after (earlyChecks m bs 0 (length xs) (length old) (length scratch)) (symbolChecks m xs) 0 (early-numbered m bs 0 (length xs) (length old) (length scratch))
+          (answers-after (settingChecks m bs 0) (Rattle.codec.specs.Calls.lengthChecks k (length xs) (length old) (length scratch)) 0 (setting-numbered m bs 0) (sound-passes m bs 0 s)
           (lengths-right (length xs) (2 ^ (k - 3)) (length old) (2 ^ k) (length scratch) (scratchFor k) (c .count) lo ls))
           (inr ((λ f. f (c .symbols)), refl))
 
-      by : (r : Outcome) → Encoded m bs xs old new scratch left r → new ≡ wordOf (symbols m) k bs xs
-      by Done e = e .right
-      by (Refused n) e = absurd (not-refused (encodeChecks m bs xs (length old) (length scratch)) fine (e .refuses))
+      by : (r : Outcome) → Encoded m bs 0 xs old new scratch left r → new ≡ wordOf (symbols m) k bs xs
+      by Done e = e .right ∙ word-at-zero F k bs xs
+      by (Refused n) e = absurd (not-refused (encodeChecks m bs 0 xs (length old) (length scratch)) fine (e .refuses))
 
   -- ---- the prover
 
   pub proven : (w old new scratch left : List ℕ) (r : Outcome) → Codeword (symbols m) k bs w → length old ≡ S k → scratchFor k ≤ length scratch
-      → Proven m bs w old new scratch left r → ProofOf m bs w new
+      → Proven m bs 0 w old new scratch left r → ProofOf m bs w new
   proven w old new scratch left r (P, lp, sp, e) lo ls = by r
     where
-      fine : Passes (proveChecks m bs w (length old) (length scratch))
+      fine : Passes (proveChecks m bs 0 w (length old) (length scratch))
       fine =
-          answers-after (settingChecks m bs ++ Rattle.prover.specs.Calls.lengthChecks k (length w) (length old) (length scratch)) (wordChecks m bs w) 0
-          (Rattle.prover.proofs.CallLaws.early-numbered m bs (length w) (length old) (length scratch))
-          (answers-after (settingChecks m bs) (Rattle.prover.specs.Calls.lengthChecks k (length w) (length old) (length scratch)) 0 (setting-numbered m bs) (sound-passes m bs s)
+          answers-after (settingChecks m bs 0 ++ Rattle.prover.specs.Calls.lengthChecks k (length w) (length old) (length scratch)) (wordChecks m bs 0 w) 0
+          (Rattle.prover.proofs.CallLaws.early-numbered m bs 0 (length w) (length old) (length scratch))
+          (answers-after (settingChecks m bs 0) (Rattle.prover.specs.Calls.lengthChecks k (length w) (length old) (length scratch)) 0 (setting-numbered m bs 0) (sound-passes m bs 0 s)
           (lengths-right (length w) (2 ^ k) (length old) (S k) (length scratch) (scratchFor k) (length-word P w e) lo ls))
-          (word-passes m bs s P w lp sp e)
+          (word-passes m bs 0 s P w lp sp (e ∙ sym (word-at-zero F k bs P)))
 
-      by : (r : Outcome) → Proven m bs w old new scratch left r → ProofOf m bs w new
-      by Done t = t .right
-      by (Refused n) t = absurd (not-refused (proveChecks m bs w (length old) (length scratch)) fine (t .refuses))
+      by : (r : Outcome) → Proven m bs 0 w old new scratch left r → ProofOf m bs w new
+      by Done t = proof-shift s w new .0 (t .right)
+      by (Refused n) t = absurd (not-refused (proveChecks m bs 0 w (length old) (length scratch)) fine (t .refuses))
 
   -- ---- the writer
 
@@ -80,9 +85,6 @@ module _ (m : ℕ) (bs : List ℕ) (s : Sound m bs) where
   delivery w π (P, H) =
       record { setting = s; word = lw; proof = lπ; word-symbols = both .0; proof-symbols = both .1 }
     where
-      F : IsField (symbols m)
-      F = sound-field s
-
       lw : length w ≡ 2 ^ k
       lw = length-word P w (H .word)
 
@@ -107,7 +109,7 @@ module _ (m : ℕ) (bs : List ℕ) (s : Sound m bs) where
       right (inr (inr f)) = f lo
 
       fine : Passes (writerChecks m bs w π (length old))
-      fine = range-answer m bs w π (length old) (sound-passes m bs s) (inr (right, refl)) 0 (inr ((λ f. f (d .word-symbols, d .proof-symbols)), refl))
+      fine = range-answer m bs w π (length old) (sound-passes m bs 0 s) (inr (right, refl)) 0 (inr ((λ f. f (d .word-symbols, d .proof-symbols)), refl))
 
       by : (r : Rattle.stored.specs.declared.Outcome.Outcome) → Wrote m bs w π old new r → new ≡ fileOf m bs w π
       by Rattle.stored.specs.declared.Outcome.the-variants.Written t = t .1

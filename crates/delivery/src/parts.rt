@@ -52,7 +52,14 @@ fn word_of(modulus: u32, basis: &[u16], coefficients: &[u16]) -> [u16; 1 << SMAL
     let n = power(basis.len());
     let mut word = small::no_word();
     let mut scratch = no_scratch();
-    codec::encode(modulus, basis, coefficients, &mut word[..n], &mut scratch);
+    codec::encode(
+        modulus,
+        basis,
+        0,
+        coefficients,
+        &mut word[..n],
+        &mut scratch,
+    );
     word
 }
 
@@ -64,7 +71,7 @@ fn proof_of(modulus: u32, basis: &[u16], word: &[u16]) -> [u16; SMALL_PROOF]
     let s = tables::proof_length(basis.len());
     let mut proof = small::no_proof();
     let mut scratch = no_scratch();
-    prover::prove(modulus, basis, word, &mut proof[..s], &mut scratch);
+    prover::prove(modulus, basis, 0, word, &mut proof[..s], &mut scratch);
     proof
 }
 

@@ -118,10 +118,10 @@ pub extern "C" fn proximity_products(modulus: u32, factors: &[u16], values: &mut
 }
 
 #[no_mangle]
-pub extern "C" fn proximity_setting(modulus: u32, basis: &[u16]) -> u32
-    ensures { λ r. ⌜ Answers (settingChecks modulus (now (basis .entry))) r ⌝ }
+pub extern "C" fn proximity_setting(modulus: u32, basis: &[u16], shift: u16) -> u32
+    ensures { λ r. ⌜ Answers (settingChecks modulus (now (basis .entry)) shift) r ⌝ }
 {
-    let c = space::check(modulus, basis);
+    let c = space::check(modulus, basis, shift);
     c.refusal as u32
 }
 
@@ -129,63 +129,68 @@ pub extern "C" fn proximity_setting(modulus: u32, basis: &[u16]) -> u32
 pub extern "C" fn proximity_check<'a>(
     modulus: u32,
     basis: &[u16],
+    shift: u16,
     word: &'a [u16],
     proof: &'a [u16],
     coin: u64,
 ) -> u64
-    ensures { λ r. ⌜ ((v : Verdict) × Checker.Told modulus (now (basis .entry)) (now (word .entry)) (now (proof .entry)) coin v × (r ≡ verdictCode v)) ⌝ }
+    ensures { λ r. ⌜ ((v : Verdict) × Checker.Told modulus (now (basis .entry)) shift (now (word .entry)) (now (proof .entry)) coin v × (r ≡ verdictCode v)) ⌝ }
 {
-    verdict_code(verifier::check(modulus, basis, word, proof, coin))
+    verdict_code(verifier::check(modulus, basis, shift, word, proof, coin))
 }
 
 #[no_mangle]
 pub extern "C" fn proximity_encode(
     modulus: u32,
     basis: &[u16],
+    shift: u16,
     coefficients: &[u16],
     word: &mut [u16],
     scratch: &mut [u16],
 ) -> u32
-    ensures { λ r. ⌜ ((o : Outcome) × Encoded modulus (now (basis .entry)) (now (coefficients .entry)) (now (word .entry)) (now (word .exit)) (now (scratch .entry)) (now (scratch .exit)) o × (r ≡ outcomeCode o)) ⌝ }
+    ensures { λ r. ⌜ ((o : Outcome) × Encoded modulus (now (basis .entry)) shift (now (coefficients .entry)) (now (word .entry)) (now (word .exit)) (now (scratch .entry)) (now (scratch .exit)) o × (r ≡ outcomeCode o)) ⌝ }
 {
-    outcome_code(codec::encode(modulus, basis, coefficients, word, scratch))
+    outcome_code(codec::encode(modulus, basis, shift, coefficients, word, scratch))
 }
 
 #[no_mangle]
 pub extern "C" fn proximity_decode(
     modulus: u32,
     basis: &[u16],
+    shift: u16,
     word: &[u16],
     coefficients: &mut [u16],
     scratch: &mut [u16],
 ) -> u32
-    ensures { λ r. ⌜ ((o : Outcome) × Decoded modulus (now (basis .entry)) (now (word .entry)) (now (coefficients .entry)) (now (coefficients .exit)) (now (scratch .entry)) (now (scratch .exit)) o × (r ≡ outcomeCode o)) ⌝ }
+    ensures { λ r. ⌜ ((o : Outcome) × Decoded modulus (now (basis .entry)) shift (now (word .entry)) (now (coefficients .entry)) (now (coefficients .exit)) (now (scratch .entry)) (now (scratch .exit)) o × (r ≡ outcomeCode o)) ⌝ }
 {
-    outcome_code(codec::decode(modulus, basis, word, coefficients, scratch))
+    outcome_code(codec::decode(modulus, basis, shift, word, coefficients, scratch))
 }
 
 #[no_mangle]
 pub extern "C" fn proximity_prove(
     modulus: u32,
     basis: &[u16],
+    shift: u16,
     word: &[u16],
     proof: &mut [u16],
     scratch: &mut [u16],
 ) -> u32
-    ensures { λ r. ⌜ ((o : Outcome) × Proven modulus (now (basis .entry)) (now (word .entry)) (now (proof .entry)) (now (proof .exit)) (now (scratch .entry)) (now (scratch .exit)) o × (r ≡ outcomeCode o)) ⌝ }
+    ensures { λ r. ⌜ ((o : Outcome) × Proven modulus (now (basis .entry)) shift (now (word .entry)) (now (proof .entry)) (now (proof .exit)) (now (scratch .entry)) (now (scratch .exit)) o × (r ≡ outcomeCode o)) ⌝ }
 {
-    outcome_code(prover::prove(modulus, basis, word, proof, scratch))
+    outcome_code(prover::prove(modulus, basis, shift, word, proof, scratch))
 }
 
 #[no_mangle]
 pub extern "C" fn proximity_correct(
     modulus: u32,
     basis: &[u16],
+    shift: u16,
     word: &[u16],
     corrected: &mut [u16],
     scratch: &mut [u16],
 ) -> u64
-    ensures { λ r. ⌜ ((c : Correction) × CorrectedWord modulus (now (basis .entry)) (now (word .entry)) (now (corrected .entry)) (now (corrected .exit)) (now (scratch .entry)) (now (scratch .exit)) c × (r ≡ correctionCode c)) ⌝ }
+    ensures { λ r. ⌜ ((c : Correction) × CorrectedWord modulus (now (basis .entry)) shift (now (word .entry)) (now (corrected .entry)) (now (corrected .exit)) (now (scratch .entry)) (now (scratch .exit)) c × (r ≡ correctionCode c)) ⌝ }
 {
-    correction_code(correction::correct(modulus, basis, word, corrected, scratch))
+    correction_code(correction::correct(modulus, basis, shift, word, corrected, scratch))
 }

@@ -3,6 +3,7 @@ pub mod Cells
 pub mod Evaluate
 pub mod Folding
 pub mod Recursion
+pub mod Translating
 pub mod Scaling
 pub mod Bases
 pub mod Loading

@@ -1,6 +1,7 @@
--- The change of basis between products of subspace polynomials and powers of x.
+-- The change of basis between products of subspace polynomials and powers of x, and the shift of a polynomial.
 pub mod Sparse
 pub mod Convert
 pub mod Scales
 pub mod Novel
+pub mod Translate
 pub mod Settings

@@ -44,6 +44,7 @@ fn one_unless_accepted(v: Verdict) -> u64
 fn unaccepted<'a>(
     modulus: u32,
     basis: &[u16],
+    shift: u16,
     word: &'a [u16],
     proof: &'a [u16],
     coins: u64,
@@ -51,7 +52,7 @@ fn unaccepted<'a>(
     let mut n: u64 = 0;
     let mut coin: u64 = 0;
     while coin < coins {
-        n += one_unless_accepted(verifier::check(modulus, basis, word, proof, coin));
+        n += one_unless_accepted(verifier::check(modulus, basis, shift, word, proof, coin));
         coin += 1;
     }
     n
@@ -61,11 +62,12 @@ fn count<'a>(
     label: &[u8],
     modulus: u32,
     basis: &[u16],
+    shift: u16,
     word: &'a [u16],
     proof: &'a [u16],
     coins: u64,
 ) {
-    let n = unaccepted(modulus, basis, word, proof, coins);
+    let n = unaccepted(modulus, basis, shift, word, proof, coins);
     line(label, b": rejecting coins ", n);
 }
 
@@ -80,6 +82,7 @@ fn round(
     label: &[u8],
     modulus: u32,
     basis: &[u16],
+    shift: u16,
     coefficients: &[u16],
     word: &mut [u16],
     proof: &mut [u16],
@@ -90,33 +93,34 @@ fn round(
     io::write_all(STDOUT_FILENO, b"\n");
     outcome(
         b"  encoded",
-        codec::encode(modulus, basis, coefficients, word, scratch),
+        codec::encode(modulus, basis, shift, coefficients, word, scratch),
     );
     outcome(
         b"  proved",
-        prover::prove(modulus, basis, word, proof, scratch),
+        prover::prove(modulus, basis, shift, word, proof, scratch),
     );
-    count(b"  pair", modulus, basis, word, proof, coins);
+    count(b"  pair", modulus, basis, shift, word, proof, coins);
 }
 
 // All coins again, with one symbol of the word changed.
 fn changed(
     modulus: u32,
     basis: &[u16],
+    shift: u16,
     word: &mut [u16],
     proof: &mut [u16],
     scratch: &mut [u16],
     coins: u64,
 ) {
     change(word);
-    count(b"  changed", modulus, basis, word, proof, coins);
+    count(b"  changed", modulus, basis, shift, word, proof, coins);
     outcome(
         b"  proved again",
-        prover::prove(modulus, basis, word, proof, scratch),
+        prover::prove(modulus, basis, shift, word, proof, scratch),
     );
 }
 
-fn round7(label: &[u8], modulus: u32, basis: &[u16]) {
+fn round7(label: &[u8], modulus: u32, basis: &[u16], shift: u16) {
     let mut word = [7u16; 128];
     let mut proof = [7u16; 896];
     let mut scratch = [7u16; 512];
@@ -124,16 +128,25 @@ fn round7(label: &[u8], modulus: u32, basis: &[u16]) {
         label,
         modulus,
         basis,
+        shift,
         &[1, 2, 3, 4, 5, 6, 7, 8, 9, 10, 11, 12, 13, 14, 15, 16],
         &mut word,
         &mut proof,
         &mut scratch,
         64,
     );
-    changed(modulus, basis, &mut word, &mut proof, &mut scratch, 64);
+    changed(
+        modulus,
+        basis,
+        shift,
+        &mut word,
+        &mut proof,
+        &mut scratch,
+        64,
+    );
 }
 
-fn round8(label: &[u8], modulus: u32, basis: &[u16]) {
+fn round8(label: &[u8], modulus: u32, basis: &[u16], shift: u16) {
     let mut word = [7u16; 256];
     let mut proof = [7u16; 16128];
     let mut scratch = [7u16; 1024];
@@ -141,16 +154,25 @@ fn round8(label: &[u8], modulus: u32, basis: &[u16]) {
         label,
         modulus,
         basis,
+        shift,
         &[57; 32],
         &mut word,
         &mut proof,
         &mut scratch,
         2048,
     );
-    changed(modulus, basis, &mut word, &mut proof, &mut scratch, 2048);
+    changed(
+        modulus,
+        basis,
+        shift,
+        &mut word,
+        &mut proof,
+        &mut scratch,
+        2048,
+    );
 }
 
-fn round9(label: &[u8], modulus: u32, basis: &[u16]) {
+fn round9(label: &[u8], modulus: u32, basis: &[u16], shift: u16) {
     let mut word = [7u16; 512];
     let mut proof = [7u16; 32256];
     let mut scratch = [7u16; 2048];
@@ -158,13 +180,22 @@ fn round9(label: &[u8], modulus: u32, basis: &[u16]) {
         label,
         modulus,
         basis,
+        shift,
         &[131; 64],
         &mut word,
         &mut proof,
         &mut scratch,
         4096,
     );
-    changed(modulus, basis, &mut word, &mut proof, &mut scratch, 4096);
+    changed(
+        modulus,
+        basis,
+        shift,
+        &mut word,
+        &mut proof,
+        &mut scratch,
+        4096,
+    );
 }
 
 // The zero pair at k = 7, and one symbol of it changed.
@@ -172,44 +203,93 @@ fn zero_pair() {
     let basis = [1u16, 2, 4, 8, 16, 32, 64];
     let mut word = [0u16; 128];
     let mut proof = [0u16; 896];
-    count(b"k 7, zeros", 283, &basis, &word, &proof, 64);
+    count(b"k 7, zeros", 283, &basis, 0, &word, &proof, 64);
     proof[0] = 1;
-    count(b"k 7, proof position 0", 283, &basis, &word, &proof, 64);
+    count(b"k 7, proof position 0", 283, &basis, 0, &word, &proof, 64);
     proof[0] = 0;
     word[32] = 1;
-    count(b"k 7, word position 32", 283, &basis, &word, &proof, 64);
+    count(b"k 7, word position 32", 283, &basis, 0, &word, &proof, 64);
     word[32] = 0;
     verdict(
         b"k 7, coin 63",
-        verifier::check(283, &basis, &word, &proof, 63),
+        verifier::check(283, &basis, 0, &word, &proof, 63),
     );
     verdict(
         b"k 7, coin 64",
-        verifier::check(283, &basis, &word, &proof, 64),
+        verifier::check(283, &basis, 0, &word, &proof, 64),
     );
 }
 
 fn only_coin() {
     let basis = [1u16, 2, 4, 8, 16, 32];
     let word = [0u16; 64];
-    verdict(b"k 6, coin 0", verifier::check(283, &basis, &word, &[], 0));
-    verdict(b"k 6, coin 1", verifier::check(283, &basis, &word, &[], 1));
+    verdict(
+        b"k 6, coin 0",
+        verifier::check(283, &basis, 0, &word, &[], 0),
+    );
+    verdict(
+        b"k 6, coin 1",
+        verifier::check(283, &basis, 0, &word, &[], 1),
+    );
 }
 
-fn main() {
-    zero_pair();
-    only_coin();
-    round7(b"k 7, modulus 283", 283, &[1, 2, 4, 8, 16, 32, 64]);
-    round7(b"k 7, modulus 137", 137, &[64, 3, 17, 5, 9, 32, 1]);
-    round8(b"k 8, modulus 283", 283, &[1, 2, 4, 8, 16, 32, 64, 128]);
+// The same word and proof in settings with a shift, and a shift that is no symbol.
+fn shifts() {
+    let basis = [1u16, 2, 4, 8, 16, 32, 64];
+    let word = [0u16; 128];
+    let mut proof = [0u16; 896];
+    let mut scratch = [7u16; 512];
+    verdict(
+        b"k 7, shift 255, coin 63",
+        verifier::check(283, &basis, 255, &word, &proof, 63),
+    );
+    verdict(
+        b"k 7, shift 256, coin 63",
+        verifier::check(283, &basis, 256, &word, &proof, 63),
+    );
+    outcome(
+        b"k 7, shift 256, proved",
+        prover::prove(283, &basis, 256, &word, &mut proof, &mut scratch),
+    );
+}
+
+fn rounds() {
+    round7(b"k 7, modulus 283", 283, &[1, 2, 4, 8, 16, 32, 64], 0);
+    round7(b"k 7, modulus 137", 137, &[64, 3, 17, 5, 9, 32, 1], 0);
+    round8(b"k 8, modulus 283", 283, &[1, 2, 4, 8, 16, 32, 64, 128], 0);
     round8(
         b"k 8, modulus 65579",
         65579,
         &[3, 5, 9, 32768, 257, 64, 2, 1000],
+        0,
     );
     round9(
         b"k 9, modulus 65579",
         65579,
         &[1, 2, 4, 8, 16, 32, 64, 128, 256],
+        0,
     );
+}
+
+fn shifted_rounds() {
+    round7(
+        b"k 7, modulus 137, shift 100",
+        137,
+        &[64, 3, 17, 5, 9, 32, 1],
+        100,
+    );
+    round8(
+        b"k 8, modulus 65579, shift 40000",
+        65579,
+        &[3, 5, 9, 32768, 257, 64, 2, 1000],
+        40000,
+    );
+}
+
+fn main() {
+    zero_pair();
+    only_coin();
+    rounds();
+    shifts();
+    shifted_rounds();
 }

@@ -14,8 +14,10 @@ use Rattle.field.specs.Binary.{degree}
 use Rattle.field.specs.Laws.{IsField}
 use Rattle.field.specs.Symbols.{symbols, symbols-field}
 use Rattle.poly.specs.Codeword.{Codeword}
+use Rattle.poly.specs.Shift.{codeword-shift}
 use Rattle.space.specs.Ready.{Ready}
 use Rattle.space.specs.Setting.{settingChecks}
+use Rattle.space.specs.Sound.{Sound, sound-field}
 use Rattle.space.specs.declared.Setting.{Setting}
 use Rattle.transform.specs.Blocks.{Tested}
 use Rattle.proximity.specs.Dim.{dim, S}
@@ -23,15 +25,16 @@ use Rattle.proximity.specs.Prover.{written-proof}
 use Rattle.codec.specs.Calls.{wordChecks}
 use Rattle.space.specs.Usable.{ready-basis, own-ready}
 use Rattle.prover.specs.Prover.{Proving, Proved}
-use Rattle.prover.specs.Calls.{lengthChecks, ProofOf, InSetting, ProvenWith}
+use Rattle.prover.specs.Calls.{lengthChecks, ProofAt, ProofOf, InSetting, ProvenWith}
+use Rattle.prover.specs.Determined.{proof-shift}
 use Rattle.codec.specs.Scratch.{scratchFor}
 
-module _ (m : ℕ) (bs : List ℕ) (a b s : ℕ) where
-  pub early-within : Within 7 (settingChecks m bs ++ lengthChecks (length bs) a b s)
-  early-within = (omega arith, (omega arith, (omega arith, (omega arith, (omega arith, (omega arith, (omega arith, tt)))))))
+module _ (m : ℕ) (bs : List ℕ) (σ a b s : ℕ) where
+  pub early-within : Within 7 (settingChecks m bs σ ++ lengthChecks (length bs) a b s)
+  early-within = (omega arith, (omega arith, (omega arith, (omega arith, (omega arith, (omega arith, (omega arith, (omega arith, tt))))))))
 
-  pub early-numbered : Numbered (settingChecks m bs ++ lengthChecks (length bs) a b s)
-  early-numbered = (omega arith, (omega arith, (omega arith, (omega arith, (omega arith, (omega arith, (omega arith, tt)))))))
+  pub early-numbered : Numbered (settingChecks m bs σ ++ lengthChecks (length bs) a b s)
+  early-numbered = (omega arith, (omega arith, (omega arith, (omega arith, (omega arith, (omega arith, (omega arith, (omega arith, tt))))))))
 
 -- ---- checks 9 and 10, and the proof
 
@@ -92,22 +95,26 @@ module _ {s : Setting} {bs : List ℕ} (r : Ready (s .field .modulus) bs s) (wor
 
 -- ---- past check 7
 
-module _ {m : ℕ} {bs : List ℕ} {s : Setting} (cs : Checks) (k : Numbered cs) (p : Passes cs) (r : Ready m bs s) (old new scratch left : List ℕ) (z : left ≡ zeros (length scratch)) (word : List ℕ) where
+module _ {m : ℕ} {bs : List ℕ} {s : Setting} (cs : Checks) (k : Numbered cs) (p : Passes cs) (r : Ready m bs s) (σ : ℕ) (shift-is : s .shift ≡ σ) (old new scratch left : List ℕ) (z : left ≡ zeros (length scratch)) (word : List ℕ) where
+  sound : Sound m bs σ
+  sound = subst (Sound m bs) shift-is (r .sound)
+
   below-word : Below (2 ^ degree (s .field .modulus)) word → Below (2 ^ degree m) word
   below-word b = subst (λ (i : ℕ). Below (2 ^ degree i) word) (r .modulus) b
 
-  pub prove-done : (n : ℕ) → ProvenWith s word old new n → n ≡ 0 → Accepted (cs ++ wordChecks m bs word) (ProofOf m bs word) new scratch left
+  pub prove-done : (n : ℕ) → ProvenWith s word old new n → n ≡ 0 → Accepted (cs ++ wordChecks m bs σ word) (ProofAt m bs σ word) new scratch left
   prove-done n (inl (e, b, w)) h =
-      let right : ProofOf m bs word new = subst (λ (i : ℕ). ProofOf i bs word new) (r .modulus) (w bs (own-ready r)) in
-      accepted cs (wordChecks m bs word) k p (ProofOf m bs word) new scratch left
+      let right : ProofAt m bs σ word new = proof-shift sound word new .1 (subst (λ (i : ℕ). ProofOf i bs word new) (r .modulus) (w bs (own-ready r))) in
+      accepted cs (wordChecks m bs σ word) k p (ProofAt m bs σ word) new scratch left
       (inr ((λ f. f (below-word b)), inr ((λ f. f (right .0, right .1 .count, right .1 .elements, right .1 .word)), refl))) right z
   prove-done n (inr (inl (e, b, w))) h = absurd (omega arith)
   prove-done n (inr (inr (e, b, f, w))) h = absurd (omega arith)
 
-  pub prove-refused : (n : ℕ) → ProvenWith s word old new n → n ≢ 0 → RefusedWith (cs ++ wordChecks m bs word) n old new scratch left
+  pub prove-refused : (n : ℕ) → ProvenWith s word old new n → n ≢ 0 → RefusedWith (cs ++ wordChecks m bs σ word) n old new scratch left
   prove-refused n (inl (e, b, w)) h = absurd (h e)
   prove-refused n (inr (inl (e, b, w))) h =
-      refused-late cs (wordChecks m bs word) k p n old new scratch left (omega arith) (inl (subst (λ (i : ℕ). Below (2 ^ degree i) word → ⊥) (r .modulus) b, e)) w z
+      refused-late cs (wordChecks m bs σ word) k p n old new scratch left (omega arith) (inl (subst (λ (i : ℕ). Below (2 ^ degree i) word → ⊥) (r .modulus) b, e)) w z
   prove-refused n (inr (inr (e, b, f, w))) h =
-      refused-late cs (wordChecks m bs word) k p n old new scratch left (omega arith)
-      (inr ((λ g. g (below-word b)), inl (subst (λ (i : ℕ). Codeword (symbols i) (length bs) bs word → ⊥) (r .modulus) (f bs (own-ready r)), e))) w z
+      let none : Codeword (symbols m) (length bs) bs word → ⊥ = subst (λ (i : ℕ). Codeword (symbols i) (length bs) bs word → ⊥) (r .modulus) (f bs (own-ready r)) in
+      refused-late cs (wordChecks m bs σ word) k p n old new scratch left (omega arith)
+      (inr ((λ g. g (below-word b)), inl ((λ c. none (codeword-shift (sound-field sound) σ (sound .shift) (length bs) bs word .0 c)), e))) w z

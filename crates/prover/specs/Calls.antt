@@ -14,6 +14,7 @@ use Rattle.space.specs.Setting.{settingChecks}
 use Rattle.space.specs.declared.Setting.{Setting}
 use Rattle.proximity.specs.Dim.{dim, S}
 use Rattle.proximity.specs.Proof.{Honest}
+use Rattle.proximity.specs.Shifted.{HonestAt}
 use Rattle.codec.specs.Calls.{wordChecks, Told}
 use Rattle.codec.specs.declared.Outcome.{Outcome}
 use Rattle.codec.specs.Scratch.{scratchFor}
@@ -23,18 +24,22 @@ abbrev pub lengthChecks : ℕ → ℕ → ℕ → ℕ → Checks
 lengthChecks k word proof scratch = (6, (word ≢ 2 ^ k) ⊎ (proof ≢ S k)) ∷ (7, scratch < scratchFor k) ∷ []
 
 -- the checks of the prover: 1 to 7, 9 and 10
-abbrev pub proveChecks : ℕ → List ℕ → List ℕ → ℕ → ℕ → Checks
-proveChecks m bs word proof scratch = settingChecks m bs ++ lengthChecks (length bs) (length word) proof scratch ++ wordChecks m bs word
+abbrev pub proveChecks : ℕ → List ℕ → ℕ → List ℕ → ℕ → ℕ → Checks
+proveChecks m bs σ word proof scratch = settingChecks m bs σ ++ lengthChecks (length bs) (length word) proof scratch ++ wordChecks m bs σ word
 
--- π is the proof of the word's polynomial, which has degree below n/8
+-- the word evaluates a polynomial P, of degree below n/8, at the shifted elements, and π is the proof of P(x + σ)
+abbrev pub ProofAt : ℕ → List ℕ → ℕ → List ℕ → List ℕ → Type 0
+ProofAt m bs σ word π = (P : List ℕ) × HonestAt (symbols m) σ (dim (length bs)) bs word π P
+
+-- the proof of the word at the shift
+abbrev pub Proven : ℕ → List ℕ → ℕ → List ℕ → List ℕ → List ℕ → List ℕ → List ℕ → Outcome → Type 0
+Proven m bs σ word old new scratch left = Told (proveChecks m bs σ word (length old) (length scratch)) (ProofAt m bs σ word) old new scratch left
+
+-- ---- past check 7: the word has the same proof at each shift, so that none is seen here
+
+-- π is the proof of the polynomial, of degree below n/8, whose values at the elements of the span are the word
 abbrev pub ProofOf : ℕ → List ℕ → List ℕ → List ℕ → Type 0
 ProofOf m bs word π = (P : List ℕ) × Honest (symbols m) (dim (length bs)) bs word π P
-
--- the proof of the word
-abbrev pub Proven : ℕ → List ℕ → List ℕ → List ℕ → List ℕ → List ℕ → List ℕ → Outcome → Type 0
-Proven m bs word old new scratch left = Told (proveChecks m bs word (length old) (length scratch)) (ProofOf m bs word) old new scratch left
-
--- ---- past check 7
 
 -- a setting that passed its checks, and the lengths that checks 6 and 7 ask for
 pub record InSetting (s : Setting) (word proof scratch : List ℕ) : Type 0 where

@@ -63,20 +63,22 @@ fn prove_with(s: Setting, word: &[u16], proof: &mut [u16], scratch: &mut [u16]) 
     9
 }
 
-// The proof of a codeword.
+// The proof of a codeword: of P(x + shift), where the word holds P at the shift plus element i. Past
+// check 4 the shift changes nothing, since it is the polynomial whose values over the span the word is.
 //
 // Ruled out: true rows with inner proofs of zeros, since all of the proof is that of the word's
 // polynomial; refusal 10 for a word with a number that is no symbol, since 9 comes first.
 pub fn prove(
     modulus: u32,
     basis: &[u16],
+    shift: u16,
     word: &[u16],
     proof: &mut [u16],
     scratch: &mut [u16],
 ) -> Outcome
-    ensures { λ r. ⌜ Proven modulus (now (basis .entry)) (now (word .entry)) (now (proof .entry)) (now (proof .exit)) (now (scratch .entry)) (now (scratch .exit)) r ⌝ }
+    ensures { λ r. ⌜ Proven modulus (now (basis .entry)) shift (now (word .entry)) (now (proof .entry)) (now (proof .exit)) (now (scratch .entry)) (now (scratch .exit)) r ⌝ }
 {
-    let checked = space::check(modulus, basis);
+    let checked = space::check(modulus, basis, shift);
     let first = checked.refusal;
     let s = checked.setting;
     let refusal = early_refusal(first, basis.len(), word.len(), proof.len(), scratch.len());

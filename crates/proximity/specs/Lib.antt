@@ -4,6 +4,7 @@ pub mod Tree
 pub mod Spaces
 pub mod Bivariate
 pub mod Proof
+pub mod Shifted
 pub mod Verifier
 pub mod ByLine
 pub mod Subspaces

@@ -137,4 +137,4 @@ module _ (n : ℕ) (s : List ℕ) where
         let m = modulus in
         let d = dimension in
         let b = basis h in
-        λ i. record { refusal = 0; setting = settingOf (m i) (b i); word = wordAt (d i); proof = proofAt (d i); end = fileEnd (d i) }
+        λ i. record { refusal = 0; setting = settingOf (m i) (b i) 0; word = wordAt (d i); proof = proofAt (d i); end = fileEnd (d i) }

@@ -7,9 +7,9 @@ fn number(n: u64) {
 }
 
 // The label, then the dimension of a setting that passes, or the number of the refusal.
-fn show(label: &[u8], modulus: u32, basis: &[u16]) {
+fn show(label: &[u8], modulus: u32, basis: &[u16], shift: u16) {
     io::write_all(STDOUT_FILENO, label);
-    let c = space::check(modulus, basis);
+    let c = space::check(modulus, basis, shift);
     let n = c.refusal;
     if n == 0 {
         io::write_all(STDOUT_FILENO, b": k ");
@@ -23,7 +23,7 @@ fn show(label: &[u8], modulus: u32, basis: &[u16]) {
 // W_2(x), the subspace polynomial of the first two basis elements.
 fn show_value(label: &[u8], modulus: u32, basis: &[u16], x: u16) {
     io::write_all(STDOUT_FILENO, label);
-    let c = space::check(modulus, basis);
+    let c = space::check(modulus, basis, 0);
     let n = c.refusal;
     if n != 0 {
         number(n as u64);
@@ -38,34 +38,50 @@ fn show_value(label: &[u8], modulus: u32, basis: &[u16], x: u16) {
 
 fn moduli() {
     let basis = [1u16, 2, 4];
-    show(b"P3 modulus 7", 7, &basis);
-    show(b"P3 modulus 15", 15, &basis);
-    show(b"P3 modulus 21", 21, &basis);
-    show(b"P3 modulus 131072", 131072, &basis);
-    show(b"modulus 0", 0, &basis);
-    show(b"modulus 4294967295", 4294967295, &basis);
-    show(b"modulus 11", 11, &basis);
+    show(b"P3 modulus 7", 7, &basis, 0);
+    show(b"P3 modulus 15", 15, &basis, 0);
+    show(b"P3 modulus 21", 21, &basis, 0);
+    show(b"P3 modulus 131072", 131072, &basis, 0);
+    show(b"modulus 0", 0, &basis, 0);
+    show(b"modulus 4294967295", 4294967295, &basis, 0);
+    show(b"modulus 11", 11, &basis, 0);
 }
 
 fn bases() {
-    show(b"no elements", 11, &[]);
-    show(b"1 2", 11, &[1, 2]);
-    show(b"1 2 8", 11, &[1, 2, 8]);
-    show(b"1 2 3", 11, &[1, 2, 3]);
-    show(b"0 1 2", 11, &[0, 1, 2]);
-    show(b"1 2 2", 11, &[1, 2, 2]);
-    show(b"7 3 1", 11, &[7, 3, 1]);
-    show(b"1 2 4 3", 11, &[1, 2, 4, 3]);
+    show(b"no elements", 11, &[], 0);
+    show(b"1 2", 11, &[1, 2], 0);
+    show(b"1 2 8", 11, &[1, 2, 8], 0);
+    show(b"1 2 3", 11, &[1, 2, 3], 0);
+    show(b"0 1 2", 11, &[0, 1, 2], 0);
+    show(b"1 2 2", 11, &[1, 2, 2], 0);
+    show(b"7 3 1", 11, &[7, 3, 1], 0);
+    show(b"1 2 4 3", 11, &[1, 2, 4, 3], 0);
     show(
         b"12 elements",
         65579,
         &[1, 2, 4, 8, 16, 32, 64, 128, 256, 512, 1024, 2048],
+        0,
     );
     show(
         b"13 elements",
         65579,
         &[1, 2, 4, 8, 16, 32, 64, 128, 256, 512, 1024, 2048, 4096],
+        0,
     );
+}
+
+// The shift is check 4, after the basis elements and before check 5.
+fn shifts() {
+    let basis = [1u16, 2, 4];
+    show(b"shift 7", 11, &basis, 7);
+    show(b"shift 8", 11, &basis, 8);
+    show(b"shift 65535", 11, &basis, 65535);
+    show(b"1 2, shift 8", 11, &[1, 2], 8);
+    show(b"1 2 8, shift 7", 11, &[1, 2, 8], 7);
+    show(b"1 2 3, shift 7", 11, &[1, 2, 3], 7);
+    show(b"1 2 3, shift 8", 11, &[1, 2, 3], 8);
+    show(b"modulus 15, shift 8", 15, &basis, 8);
+    show(b"modulus 65579, shift 65535", 65579, &basis, 65535);
 }
 
 // q(x) = x^4 + 7 x^2 + 6 x modulo 283, for the span of 1 and 2.
@@ -82,5 +98,6 @@ fn case_four() {
 fn main() {
     moduli();
     bases();
+    shifts();
     case_four();
 }

@@ -1,5 +1,5 @@
 -- What a caller of `check` knows: of a setting that passed, and of a refusal. Assumes nothing.
-use mathlib.Core.Path.{_≡_, refl, sym, subst}
+use mathlib.Core.Path.{_≡_, refl, sym, ap, subst}
 use mathlib.Core.Logic.{inl, inr}
 use mathlib.Core.List.{List, _++_}
 use Prim.Native.Nat.{ℕ, _^_, _<_}
@@ -21,9 +21,9 @@ use Rattle.space.specs.Table.{sound-images}
 use Rattle.space.specs.declared.Checked.{Checked}
 use Rattle.space.specs.declared.Setting.{Setting}
 
--- s is the setting of the modulus m and the basis bs, which are sound
+-- s is the setting of the modulus m and the basis bs, which are sound with its shift
 pub record Ready (m : ℕ) (bs : List ℕ) (s : Setting) : Type 0 where
-  pub sound : Sound m bs
+  pub sound : Sound m bs (s .shift)
   pub modulus : s .field .modulus ≡ m
   pub sized : Sized (s .field)
   pub dimension : s .space .k ≡ length bs
@@ -31,7 +31,7 @@ pub record Ready (m : ℕ) (bs : List ℕ) (s : Setting) : Type 0 where
   pub steps : s .steps ≡ stepsOf (symbols m) bs
   pub inverses : s .inverses ≡ inversesOf (symbols m) bs
 
-ready-setting : {m : ℕ} {bs : List ℕ} → Sound m bs → Ready m bs (settingOf m bs)
+ready-setting : {m : ℕ} {bs : List ℕ} {σ : ℕ} → Sound m bs σ → Ready m bs (settingOf m bs σ)
 unfolding settingOf
 ready-setting {m} {bs} s =
     let d = degree-range m (s .modulus) in
@@ -47,23 +47,28 @@ ready-setting {m} {bs} s =
 
 -- ---- one table of checks after another
 
-module _ (cs ds : Checks) (m : ℕ) (bs : List ℕ) (c : Checked) where
-  pub settled-after : Numbered cs → Passes cs → SettledBy ds m bs c → SettledBy (cs ++ ds) m bs c
+module _ (cs ds : Checks) (m : ℕ) (bs : List ℕ) (σ : ℕ) (c : Checked) where
+  pub settled-after : Numbered cs → Passes cs → SettledBy ds m bs σ c → SettledBy (cs ++ ds) m bs σ c
   settled-after n p (inl (q, z, e)) = inl (answers-after cs ds 0 n p q, z, e)
   settled-after n p (inr ((l, q), e)) = inr ((l, answers-after cs ds (c .refusal) n p q), e)
 
-  pub settled-first : (r : ℕ) → (r ≡ 0 → ⊥) → Answers cs r → c .refusal ≡ r → c .setting ≡ noSetting → SettledBy (cs ++ ds) m bs c
+  pub settled-first : (r : ℕ) → (r ≡ 0 → ⊥) → Answers cs r → c .refusal ≡ r → c .setting ≡ noSetting → SettledBy (cs ++ ds) m bs σ c
   settled-first r n a z e =
       let l : 0 < c .refusal = omega arith in
       inr ((l, refused-first cs ds (c .refusal) l (subst (Answers cs) (sym z) a)), e)
 
-module _ (m : ℕ) (bs : List ℕ) (c : Checked) where
-  pub ready : Settled m bs c → c .refusal ≡ 0 → Ready m bs (c .setting)
-  ready (inl (p, z, e)) h = subst (Ready m bs) (sym e) (ready-setting (sound m bs p))
+module _ (m : ℕ) (bs : List ℕ) (σ : ℕ) (c : Checked) where
+  pub ready : Settled m bs σ c → c .refusal ≡ 0 → Ready m bs (c .setting)
+  ready (inl (p, z, e)) h = subst (Ready m bs) (sym e) (ready-setting (sound m bs σ p))
   ready (inr ((l, a), e)) h = absurd (omega arith)
 
-  pub settled-answer : Settled m bs c → Answers (settingChecks m bs) (c .refusal)
-  settled-answer (inl (p, z, e)) = subst (Answers (settingChecks m bs)) (sym z) p
+  pub settled-shift : Settled m bs σ c → c .refusal ≡ 0 → c .setting .shift ≡ σ
+  unfolding settingOf
+  settled-shift (inl (p, z, e)) h = ap (λ (s : Setting). s .shift) e
+  settled-shift (inr ((l, a), e)) h = absurd (omega arith)
+
+  pub settled-answer : Settled m bs σ c → Answers (settingChecks m bs σ) (c .refusal)
+  settled-answer (inl (p, z, e)) = subst (Answers (settingChecks m bs σ)) (sym z) p
   settled-answer (inr ((l, a), e)) = a
 
 -- the steps and their inverses are symbols

@@ -19,21 +19,21 @@ use Rattle.space.specs.declared.Setting.{Setting}
 use Rattle.space.specs.declared.Checked.{Checked}
 use Rattle.space.specs.Sizes.{maxDim, cells}
 
--- checks 3 and 4
-abbrev pub basisChecks : ℕ → List ℕ → Checks
-basisChecks m bs = (3, (length bs < 3) ⊎ (maxDim < length bs)) ∷ (4, (Below (2 ^ degree m) bs → ⊥)) ∷ []
+-- checks 3 and 4: the number of basis elements, the elements, and then the shift σ
+abbrev pub basisChecks : ℕ → List ℕ → ℕ → Checks
+basisChecks m bs σ = (3, (length bs < 3) ⊎ (maxDim < length bs)) ∷ (4, (Below (2 ^ degree m) bs → ⊥)) ∷ (4, (σ < 2 ^ degree m → ⊥)) ∷ []
 
 -- check 5
 abbrev pub spanChecks : ℕ → List ℕ → Checks
 spanChecks m bs = (5, (Independent (symbols m) bs → ⊥)) ∷ []
 
 -- checks 3 to 5
-abbrev pub spaceChecks : ℕ → List ℕ → Checks
-spaceChecks m bs = basisChecks m bs ++ spanChecks m bs
+abbrev pub spaceChecks : ℕ → List ℕ → ℕ → Checks
+spaceChecks m bs σ = basisChecks m bs σ ++ spanChecks m bs
 
 -- checks 1 to 5
-abbrev pub settingChecks : ℕ → List ℕ → Checks
-settingChecks m bs = modulusChecks m ++ spaceChecks m bs
+abbrev pub settingChecks : ℕ → List ℕ → ℕ → Checks
+settingChecks m bs σ = modulusChecks m ++ spaceChecks m bs σ
 
 -- ---- the tables of a basis; past its end each entry is 0
 
@@ -65,12 +65,13 @@ Tabled m bs t = (Independent (symbols m) bs × (t ≡ tablesOf (symbols m) bs)) 
 unfoldable pub paddedOf : List ℕ → List ℕ
 paddedOf bs = tab 16 (λ i. getD bs i 0)
 
-unfoldable pub settingOf : ℕ → List ℕ → Setting
-settingOf m bs =
+unfoldable pub settingOf : ℕ → List ℕ → ℕ → Setting
+settingOf m bs σ =
     record {
       field = record { modulus = m; degree = degree m };
       space = record { k = length bs; images = imagesOf (symbols m) bs };
       basis = paddedOf bs;
+      shift = σ;
       steps = stepsOf (symbols m) bs;
       inverses = inversesOf (symbols m) bs;
     }
@@ -82,17 +83,18 @@ noSetting =
       field = record { modulus = 0; degree = 0 };
       space = record { k = 0; images = zeros cells };
       basis = zeros 16;
+      shift = 0;
       steps = zeros 16;
       inverses = zeros 16;
     }
 
 -- 0 and the setting; or the number of the first check that refuses, and no setting
-abbrev pub SettledBy : Checks → ℕ → List ℕ → Checked → Type 0
-SettledBy cs m bs c = (Passes cs × (c .refusal ≡ 0) × (c .setting ≡ settingOf m bs)) ⊎ (Refuses cs (c .refusal) × (c .setting ≡ noSetting))
+abbrev pub SettledBy : Checks → ℕ → List ℕ → ℕ → Checked → Type 0
+SettledBy cs m bs σ c = (Passes cs × (c .refusal ≡ 0) × (c .setting ≡ settingOf m bs σ)) ⊎ (Refuses cs (c .refusal) × (c .setting ≡ noSetting))
 
-abbrev pub Settled : ℕ → List ℕ → Checked → Type 0
-Settled m bs = SettledBy (settingChecks m bs) m bs
+abbrev pub Settled : ℕ → List ℕ → ℕ → Checked → Type 0
+Settled m bs σ = SettledBy (settingChecks m bs σ) m bs σ
 
 -- the same past checks 1 to 4
-abbrev pub Made : ℕ → List ℕ → Checked → Type 0
-Made m bs = SettledBy (spanChecks m bs) m bs
+abbrev pub Made : ℕ → List ℕ → ℕ → Checked → Type 0
+Made m bs σ = SettledBy (spanChecks m bs) m bs σ

@@ -13,7 +13,7 @@ use Rattle.space.specs.Setting.{imagesOf}
 use Rattle.space.specs.Sound.{Sound, sound-field}
 use Rattle.space.specs.Sizes.{cells}
 
-pub sound-images : {m : ℕ} {bs : List ℕ} → Sound m bs → Images (symbols m) bs (imagesOf (symbols m) bs)
+pub sound-images : {m : ℕ} {bs : List ℕ} {σ : ℕ} → Sound m bs σ → Images (symbols m) bs (imagesOf (symbols m) bs)
 sound-images {m} {bs} s =
     record {
       count = length-tab cells entry;

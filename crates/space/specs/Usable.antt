@@ -1,7 +1,7 @@
 -- The ranges of a setting that passed its checks, and its field and basis. Assumes nothing.
 use mathlib.Core.Path.{sym, subst}
 use mathlib.Core.List.{List}
-use Prim.Native.Nat.{ℕ, _^_, _≤_}
+use Prim.Native.Nat.{ℕ, _^_, _≤_, _<_}
 use native.Mathlib.Omega.{arith}
 use Rattle.lists.specs.All.{Below}
 use Rattle.field.specs.Binary.{degree, Irreducible}
@@ -23,6 +23,7 @@ pub record Usable (s : Setting) : Type 0 where
   pub images : Below (2 ^ degree (s .field .modulus)) (s .space .images)
   pub steps : Below (2 ^ degree (s .field .modulus)) (s .steps)
   pub inverses : Below (2 ^ degree (s .field .modulus)) (s .inverses)
+  pub shift : s .shift < 2 ^ degree (s .field .modulus)
 
 module _ {s : Setting} {bs : List ℕ} (r : Ready (s .field .modulus) bs s) where
   abbrev K : Ops
@@ -41,6 +42,7 @@ module _ {s : Setting} {bs : List ℕ} (r : Ready (s .field .modulus) bs s) wher
         images = r .images .elements;
         steps = steps-below r;
         inverses = inverses-below r;
+        shift = r .sound .shift;
       }
 
   pub ready-basis : Basis K (s .space .k) bs

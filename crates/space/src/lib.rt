@@ -1,4 +1,5 @@
-// A checked setting: the field, and the span of the basis by the images of its basis elements.
+// A checked setting: the field, the span of the basis by the images of its basis elements, and the
+// shift of that span.
 //
 // W_j(x) is the product of x - a over a in the span of the first j basis elements. The normalised
 // image of number j of x is W_j(x) / W_j(b_(j+1)); it is additive in x.
@@ -43,11 +44,13 @@ pub struct Space {
     pub images: [u16; CELLS],
 }
 
-// The basis, the steps W_j(b_(j+1)) and their inverses, each with zeros past the dimension.
+// The basis, the steps W_j(b_(j+1)) and their inverses, each with zeros past the dimension. Position
+// i of a word belongs to the shift plus element i.
 pub struct Setting {
     pub field: Field,
     pub space: Space,
     pub basis: [u16; 16],
+    pub shift: u16,
     pub steps: [u16; 16],
     pub inverses: [u16; 16],
 }
@@ -118,6 +121,7 @@ pub fn no_setting() -> Setting
             images: [0u16; CELLS],
         },
         basis: [0u16; 16],
+        shift: 0,
         steps: [0u16; 16],
         inverses: [0u16; 16],
     }
@@ -146,10 +150,10 @@ fn padded(basis: &[u16]) -> [u16; 16]
     out
 }
 
-// Checks 3 and 4 of a basis.
-fn basis_refusal(f: Field, basis: &[u16]) -> u8
+// Checks 3 and 4: the number of elements, the elements, and then the shift.
+fn basis_refusal(f: Field, basis: &[u16], shift: u16) -> u8
     requires { ⌜ Sized f ⌝ }
-    ensures { λ r. ⌜ Answers (basisChecks (f .modulus) (now (basis .entry))) r ⌝ }
+    ensures { λ r. ⌜ Answers (basisChecks (f .modulus) (now (basis .entry)) shift) r ⌝ }
 {
     if basis.len() < 3 {
         return 3;
@@ -157,16 +161,19 @@ fn basis_refusal(f: Field, basis: &[u16]) -> u8
     if MAX < basis.len() {
         return 3;
     }
-    if field::modulus::all_symbols(f, basis) {
+    if !field::modulus::all_symbols(f, basis) {
+        return 4;
+    }
+    if field::modulus::is_symbol(f, shift) {
         return 0;
     }
     4
 }
 
-// The setting of a basis that passed checks 1 to 4: check 5.
-fn settle(f: Field, basis: &[u16]) -> Checked
+// The setting of a basis and a shift that passed checks 1 to 4: check 5.
+fn settle(f: Field, basis: &[u16], shift: u16) -> Checked
     requires { ⌜ Sized f × Irreducible (f .modulus) × (length (now basis) ≤ maxDim) × Below (2 ^ degree (f .modulus)) (now basis) ⌝ }
-    ensures { λ r. ⌜ Made (f .modulus) (now (basis .entry)) r ⌝ }
+    ensures { λ r. ⌜ Made (f .modulus) (now (basis .entry)) shift r ⌝ }
 {
     let t = tabulate(f, basis);
     let independent = t.independent;
@@ -183,6 +190,7 @@ fn settle(f: Field, basis: &[u16]) -> Checked
                     images,
                 },
                 basis: padded(basis),
+                shift,
                 steps,
                 inverses,
             },
@@ -191,31 +199,32 @@ fn settle(f: Field, basis: &[u16]) -> Checked
     refused(5)
 }
 
-// The setting of a basis in a field whose modulus passed checks 1 and 2: checks 3 to 5.
+// The setting of a basis and a shift in a field whose modulus passed checks 1 and 2: checks 3 to 5.
 //
 // Ruled out: 5 for a dependent basis with an element too many, since check 3 comes first; the
 // setting of a basis with an element of another field, since check 4 is by the field's own degree.
-pub fn check_basis(f: Field, basis: &[u16]) -> Checked
+pub fn check_basis(f: Field, basis: &[u16], shift: u16) -> Checked
     requires { ⌜ Sized f × Irreducible (f .modulus) ⌝ }
-    ensures { λ r. ⌜ SettledBy (spaceChecks (f .modulus) (now (basis .entry))) (f .modulus) (now (basis .entry)) r ⌝ }
+    ensures { λ r. ⌜ SettledBy (spaceChecks (f .modulus) (now (basis .entry)) shift) (f .modulus) (now (basis .entry)) shift r ⌝ }
 {
-    let n = basis_refusal(f, basis);
+    let n = basis_refusal(f, basis, shift);
     if n == 0 {
-        return settle(f, basis);
+        return settle(f, basis, shift);
     }
     refused(n)
 }
 
-// A setting by its modulus and its basis: checks 1 to 5, then the setting.
+// A setting by its modulus, its basis and its shift: checks 1 to 5, then the setting.
 //
 // Ruled out: a dependent basis that is answered with a setting, since no setting has a step 0; a
-// number other than the first check's that refuses, as 2 for a modulus that check 1 refuses.
-pub fn check(modulus: u32, basis: &[u16]) -> Checked
-    ensures { λ r. ⌜ Settled modulus (now (basis .entry)) r ⌝ }
+// number other than the first check's that refuses, as 2 for a modulus that check 1 refuses, or 5
+// for a dependent basis with a shift that is no symbol.
+pub fn check(modulus: u32, basis: &[u16], shift: u16) -> Checked
+    ensures { λ r. ⌜ Settled modulus (now (basis .entry)) shift r ⌝ }
 {
     let n = field::modulus::modulus_refusal(modulus);
     if n == 0 {
-        return check_basis(field::modulus::field_of(modulus), basis);
+        return check_basis(field::modulus::field_of(modulus), basis, shift);
     }
     refused(n)
 }

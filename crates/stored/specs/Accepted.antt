@@ -16,14 +16,14 @@ use Rattle.space.specs.declared.Checked.{Checked}
 use Rattle.space.specs.declared.Setting.{Setting}
 use Rattle.proximity.specs.Dim.{S}
 use Rattle.stored.specs.File.{wordRecordAt, wordAt, proofRecordAt, proofAt, fileEnd, modulusIn, dimIn, basisIn}
-use Rattle.stored.specs.Passed.{Head, length-basis, head-numbered, head-passed, head-passes, in-range, Held, record-numbered, record-passed, record-passes}
+use Rattle.stored.specs.Passed.{Head, length-basis, head-numbered, head-passed, head-passes, to-four, Held, record-numbered, record-passed, record-passes}
 use Rattle.stored.specs.Reader.{headChecks, basisChecks, settingChecks, wordChecks, proofChecks, symbolChecks, prefixChecks, fileChecks, SettingRead, readOf, noRead, Told}
 use Rattle.stored.specs.declared.Reading.{Reading}
 
 -- the records of the setting, the word and the proof
 pub record Prefix (f : List ℕ) : Type 0 where
   pub head : Head f
-  pub setting : Sound (modulusIn f) (basisIn f)
+  pub setting : Sound (modulusIn f) (basisIn f) 0
   pub word : Held f (wordRecordAt (dimIn f)) 87 79 (2 ^ dimIn f) (degree (modulusIn f))
   pub proof : Held f (proofRecordAt (dimIn f)) 80 70 (S (dimIn f)) (degree (modulusIn f))
 
@@ -36,36 +36,36 @@ pub setting-numbered : (f : List ℕ) → Numbered (settingChecks f)
 setting-numbered f = (omega arith, (omega arith, (omega arith, (omega arith, (omega arith, (omega arith, (omega arith, tt)))))))
 
 module _ (f : List ℕ) where
-  sound-after : Head f → Passes (basisChecks f) → Sound (modulusIn f) (basisIn f)
+  sound-after : Head f → Passes (basisChecks f) → Sound (modulusIn f) (basisIn f) 0
   sound-after t p =
-      sound (modulusIn f) (basisIn f)
-      (answers-after (modulusChecks (modulusIn f)) (spaceChecks (modulusIn f) (basisIn f)) 0
-      (modulus-numbered (modulusIn f)) (good-passes (modulusIn f) (t .modulus)) (inr (in-range f t, p)))
+      sound (modulusIn f) (basisIn f) 0
+      (answers-after (modulusChecks (modulusIn f)) (spaceChecks (modulusIn f) (basisIn f) 0) 0
+      (modulus-numbered (modulusIn f)) (good-passes (modulusIn f) (t .modulus)) (to-four f t p))
 
-  pub setting-passed : Passes (settingChecks f) → Head f × Sound (modulusIn f) (basisIn f)
+  pub setting-passed : Passes (settingChecks f) → Head f × Sound (modulusIn f) (basisIn f) 0
   setting-passed p =
       let parts = passes-each (headChecks f) (basisChecks f) (head-numbered f) p in
       let t = head-passed f (parts .0) in
       (t, sound-after t (parts .1))
 
-  pub setting-passes : Head f → Sound (modulusIn f) (basisIn f) → Passes (settingChecks f)
+  pub setting-passes : Head f → Sound (modulusIn f) (basisIn f) 0 → Passes (settingChecks f)
   setting-passes t s =
       answers-after (headChecks f) (basisChecks f) 0 (head-numbered f) (head-passes f t)
       (inr ((λ n. n (s .basis .elements)), inr ((λ n. n (s .basis .independent)), refl)))
 
   -- the setting that was read
-  pub read-setting : (c : Checked) → SettledBy (settingChecks f) (modulusIn f) (basisIn f) c → c .refusal ≡ 0 → SettingRead f (c .setting)
+  pub read-setting : (c : Checked) → SettledBy (settingChecks f) (modulusIn f) (basisIn f) 0 c → c .refusal ≡ 0 → SettingRead f (c .setting)
   read-setting c (inl (p, z, e)) h = (p, e)
   read-setting c (inr ((l, a), e)) h = absurd (omega arith)
 
   pub setting-ready : (s : Setting) → SettingRead f s → Ready (modulusIn f) (basisIn f) s
   setting-ready s (p, e) =
-      ready (modulusIn f) (basisIn f) (record { refusal = 0; setting = s }) (inl (sound-passes (modulusIn f) (basisIn f) (setting-passed p .1), refl, e)) refl
+      ready (modulusIn f) (basisIn f) 0 (record { refusal = 0; setting = s }) (inl (sound-passes (modulusIn f) (basisIn f) 0 (setting-passed p .1), refl, e)) refl
 
   pub setting-dimension : (s : Setting) → SettingRead f s → s .space .k ≡ dimIn f
   setting-dimension s r = setting-ready s r .dimension ∙ length-basis f
 
-  pub setting-refuses : (c : Checked) → SettledBy (settingChecks f) (modulusIn f) (basisIn f) c → (c .refusal ≡ 0 → ⊥) → Refuses (settingChecks f) (c .refusal)
+  pub setting-refuses : (c : Checked) → SettledBy (settingChecks f) (modulusIn f) (basisIn f) 0 c → (c .refusal ≡ 0 → ⊥) → Refuses (settingChecks f) (c .refusal)
   setting-refuses c (inl (p, z, e)) n = absurd (n z)
   setting-refuses c (inr (a, e)) n = a
 
@@ -200,7 +200,7 @@ module _ (f : List ℕ) where
       }
 
   -- the reading of the setting s, with the places as they are computed
-  pub read-made : (s : Setting) (j n q : ℕ) → s ≡ settingOf (modulusIn f) (basisIn f) → j ≡ k → n ≡ 2 ^ j → q ≡ S j
+  pub read-made : (s : Setting) (j n q : ℕ) → s ≡ settingOf (modulusIn f) (basisIn f) 0 → j ≡ k → n ≡ 2 ^ j → q ≡ S j
       → record { refusal = 0; setting = s; word = 13 + 2 * j; proof = 13 + 2 * j + 2 * n + 6; end = 13 + 2 * j + 2 * n + 6 + 2 * q } ≡ readOf f
   unfolding readOf
   read-made s j n q es ej en eq =

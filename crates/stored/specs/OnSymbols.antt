@@ -1,4 +1,4 @@
--- On an accepted file the checker over stored bytes answers as the checker on symbols. Assumes nothing.
+-- On an accepted file the checker over stored bytes answers as the checker on symbols with the shift 0. Assumes nothing.
 use mathlib.Core.Path.{_≡_, refl, sym, subst}
 use mathlib.Core.Logic.{_⊎_, _↔_, inl, inr}
 use mathlib.Core.List.{List, _++_}
@@ -9,16 +9,14 @@ use lib.ListN.{length}
 use lib.Pow.{pow-pos}
 use Rattle.lists.specs.Answers.{Checks, Answers, Passes, answers-one, answers-after, numbered-append}
 use Rattle.field.specs.Binary.{degree}
-use Rattle.field.specs.Laws.{Ops}
 use Rattle.field.specs.Symbols.{symbols}
 use Rattle.space.specs.Setting.{settingChecks}
 use Rattle.space.specs.Sound.{sound-passes, setting-numbered}
 use Rattle.proximity.specs.Dim.{dim, S, R}
 use Rattle.proximity.specs.Verifier.{positions}
 use Rattle.verifier.specs.Checker.{deliveryChecks, readChecks, checkerChecks, Answered, Told}
-use Rattle.verifier.specs.Verdicts.{told-delivery, delivery-passes}
+use Rattle.verifier.specs.Verdicts.{answered-alike, told-delivery, delivery-passes}
 use Rattle.verifier.specs.declared.Verdict.{Verdict}
-use Rattle.verifier.specs.declared.Verdict.the-variants.{Accept, Reject, Refused}
 use Rattle.stored.specs.Check.{coinChecks, AnsweredFile}
 use Rattle.stored.specs.CheckLaws.{refused-coin, coin-passes}
 use Rattle.stored.specs.File.{modulusIn, dimIn, basisIn, wordIn, proofIn}
@@ -45,33 +43,28 @@ module _ (m : ℕ) (bs w π : List ℕ) (d : Delivery m bs w π) (coin : ℕ) wh
   abbrev reading : Checks
   reading = readChecks (symbols m) (length bs) w π coin
 
-  symbols-coin : 2 ^ R (length bs) ≤ coin → Answers (checkerChecks m bs w π coin) 8
+  symbols-coin : 2 ^ R (length bs) ≤ coin → Answers (checkerChecks m bs 0 w π coin) 8
   symbols-coin h =
-      told-delivery m bs w π coin (sound-passes m bs (d .setting)) 8 (omega arith) (inr (lengths, inl (h, refl))) .1
+      told-delivery m bs 0 w π coin (sound-passes m bs 0 (d .setting)) 8 (omega arith) (inr (lengths, inl (h, refl))) .1
     where
       lengths : (length w ≡ 2 ^ length bs → ⊥) ⊎ (length π ≡ S (length bs) → ⊥) → ⊥
       lengths (inl f) = f (d .word)
       lengths (inr f) = f (d .proof)
 
-  symbols-pass : coin < 2 ^ R (length bs) → Passes (checkerChecks m bs w π coin)
+  symbols-pass : coin < 2 ^ R (length bs) → Passes (checkerChecks m bs 0 w π coin)
   symbols-pass h =
-      answers-after (settingChecks m bs ++ delivery) reading 0 (numbered-append (settingChecks m bs) delivery (setting-numbered m bs) (omega arith, (omega arith, tt)))
-      (answers-after (settingChecks m bs) delivery 0 (setting-numbered m bs) (sound-passes m bs (d .setting)) (delivery-passes (length bs) (length w) (length π) coin (d .word) (d .proof) h))
+      answers-after (settingChecks m bs 0 ++ delivery) reading 0 (numbered-append (settingChecks m bs 0) delivery (setting-numbered m bs 0) (omega arith, (omega arith, tt)))
+      (answers-after (settingChecks m bs 0) delivery 0 (setting-numbered m bs 0) (sound-passes m bs 0 (d .setting)) (delivery-passes (length bs) (length w) (length π) coin (d .word) (d .proof) h))
       (inr ((λ f. f (symbols-below (2 ^ degree m) w π (pow-pos (degree m)) (d .word-symbols) (d .proof-symbols) (positions (dim (length bs)) coin))), refl))
 
 -- ---- the answers
-
-answered-alike : (cs ds : Checks) → ((r : ℕ) → Answers cs r → Answers ds r) → (K : Ops) (k : ℕ) (b w π : List ℕ) (coin : ℕ) (v : Verdict) → Answered cs K k b w π coin v → Answered ds K k b w π coin v
-answered-alike cs ds f K k b w π coin (Accept n) (p, e, a) = (f 0 p, e, a)
-answered-alike cs ds f K k b w π coin (Reject n) (p, e, a) = (f 0 p, e, a)
-answered-alike cs ds f K k b w π coin (Refused n) (l, a) = (l, f n a)
 
 module _ (f : List ℕ) (p : Passes (fileChecks f)) (coin : ℕ) where
   abbrev onBytes : Checks
   onBytes = coinChecks f coin
 
   abbrev onSymbols : Checks
-  onSymbols = checkerChecks (modulusIn f) (basisIn f) (wordIn f) (proofIn f) coin
+  onSymbols = checkerChecks (modulusIn f) (basisIn f) 0 (wordIn f) (proofIn f) coin
 
   high : 2 ^ R (dimIn f) ≤ coin → Answers onSymbols 8
   high h =
@@ -88,7 +81,7 @@ module _ (f : List ℕ) (p : Passes (fileChecks f)) (coin : ℕ) where
   to-bytes = alike onSymbols onBytes (2 ^ R (dimIn f)) coin high low (λ h. refused-coin f coin p h .1) (coin-passes f coin p)
 
   -- the checks of the file leave 8 alone of the checks on symbols, and the verdict is the same
-  pub file-answers : (v : Verdict) → AnsweredFile f coin v ↔ Told (modulusIn f) (basisIn f) (wordIn f) (proofIn f) coin v
+  pub file-answers : (v : Verdict) → AnsweredFile f coin v ↔ Told (modulusIn f) (basisIn f) 0 (wordIn f) (proofIn f) coin v
   file-answers v = (
     (λ a. subst (λ (k : ℕ). Answered onSymbols (symbols (modulusIn f)) k (basisIn f) (wordIn f) (proofIn f) coin v) (sym (length-basis f))
         (answered-alike onBytes onSymbols to-symbols (symbols (modulusIn f)) (dimIn f) (basisIn f) (wordIn f) (proofIn f) coin v a)),

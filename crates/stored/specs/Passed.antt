@@ -6,10 +6,12 @@ use Prim.Native.Nat.{ℕ, _+_, _*_, _^_, _≤_, _<_}
 use native.Mathlib.Decide.{decLe}
 use native.Mathlib.Omega.{arith}
 use lib.ListN.{length, getD}
+use lib.Pow.{pow-pos}
 use Rattle.lists.specs.All.{Below, below-stable}
 use Rattle.lists.specs.Answers.{Answers, Passes, Numbered, answers-after, refused-first, passes-each}
 use Rattle.lists.specs.Decides.{equal-stable}
 use Rattle.lists.specs.Tables.{length-tab}
+use Rattle.field.specs.Binary.{degree}
 use Rattle.field.specs.Calls.{modulus-numbered}
 use Rattle.field.specs.Checks.{modulusChecks, GoodModulus, modulus-passed, good-passes, not-less}
 use Rattle.space.specs.Ready.{settled-after}
@@ -78,19 +80,25 @@ module _ (f : List ℕ) where
   pub head-passes : Head f → Passes (headChecks f)
   head-passes h = head-late (h .opened) 0 (good-passes (modulusIn f) (h .modulus)) (inr (outside (h .low) (h .high), inr ((λ l. omega (arith, h .basis)), refl)))
 
-  -- past the head the checks of the setting go on at 4
+  -- past the head the checks of the setting go on at 4; the shift 0 passes
   module _ (h : Head f) where
-    pub in-range : (length (basisIn f) < 3) ⊎ (maxDim < length (basisIn f)) → ⊥
+    in-range : (length (basisIn f) < 3) ⊎ (maxDim < length (basisIn f)) → ⊥
     in-range = rw length-basis (outside (h .low) (h .high))
 
-    from-four : {r : ℕ} → Answers (spaceChecks (modulusIn f) (basisIn f)) r → Answers (basisChecks f) r
+    from-four : {r : ℕ} → Answers (spaceChecks (modulusIn f) (basisIn f) 0) r → Answers (basisChecks f) r
     from-four (inl d) = absurd (in-range (d .0))
-    from-four (inr (d, e)) = e
+    from-four (inr (d, inl e)) = inl e
+    from-four (inr (d, inr (e, inl s))) = absurd (s .0 (pow-pos (degree (modulusIn f))))
+    from-four (inr (d, inr (e, inr (s, g)))) = inr (e, g)
 
-    pub settled-after-head : (c : Checked) → SettledBy (spaceChecks (modulusIn f) (basisIn f)) (modulusIn f) (basisIn f) c → SettledBy (settingChecks f) (modulusIn f) (basisIn f) c
-    settled-after-head c s = settled-after (headChecks f) (basisChecks f) (modulusIn f) (basisIn f) c (head-numbered f) (head-passes h) (go s)
+    pub to-four : {r : ℕ} → Answers (basisChecks f) r → Answers (spaceChecks (modulusIn f) (basisIn f) 0) r
+    to-four (inl e) = inr (in-range, inl e)
+    to-four (inr (e, g)) = inr (in-range, inr (e, inr ((λ s. s (pow-pos (degree (modulusIn f)))), g)))
+
+    pub settled-after-head : (c : Checked) → SettledBy (spaceChecks (modulusIn f) (basisIn f) 0) (modulusIn f) (basisIn f) 0 c → SettledBy (settingChecks f) (modulusIn f) (basisIn f) 0 c
+    settled-after-head c s = settled-after (headChecks f) (basisChecks f) (modulusIn f) (basisIn f) 0 c (head-numbered f) (head-passes h) (go s)
       where
-        go : SettledBy (spaceChecks (modulusIn f) (basisIn f)) (modulusIn f) (basisIn f) c → SettledBy (basisChecks f) (modulusIn f) (basisIn f) c
+        go : SettledBy (spaceChecks (modulusIn f) (basisIn f) 0) (modulusIn f) (basisIn f) 0 c → SettledBy (basisChecks f) (modulusIn f) (basisIn f) 0 c
         go (inl (p, z, e)) = inl (from-four p, z, e)
         go (inr ((l, a), e)) = inr ((l, from-four a), e)
 

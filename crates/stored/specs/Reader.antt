@@ -58,14 +58,14 @@ fileChecks f = prefixChecks f ++ ((12, fileEnd (dimIn f) < length f) ∷ [])
 
 -- ---- what the reader hands back
 
--- the setting of a setting record that passes
+-- the setting of a setting record that passes: its shift is 0
 abbrev pub SettingRead : List ℕ → Setting → Type 0
-SettingRead f s = Passes (settingChecks f) × (s ≡ settingOf (modulusIn f) (basisIn f))
+SettingRead f s = Passes (settingChecks f) × (s ≡ settingOf (modulusIn f) (basisIn f) 0)
 
 -- the setting and the places; and where a check refuses, the number alone
 unfoldable pub readOf : List ℕ → Reading
 readOf f =
-    record { refusal = 0; setting = settingOf (modulusIn f) (basisIn f); word = wordAt (dimIn f); proof = proofAt (dimIn f); end = fileEnd (dimIn f) }
+    record { refusal = 0; setting = settingOf (modulusIn f) (basisIn f) 0; word = wordAt (dimIn f); proof = proofAt (dimIn f); end = fileEnd (dimIn f) }
 
 unfoldable pub noRead : ℕ → Reading
 noRead n = record { refusal = n; setting = noSetting; word = 0; proof = 0; end = 0 }

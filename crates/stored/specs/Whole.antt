@@ -19,9 +19,9 @@ use Rattle.stored.specs.File.{settingRecord, symbolRecord, wordRecord, p
 use Rattle.stored.specs.Passed.{Head, Held, length-basis}
 use Rattle.stored.specs.Reader.{fileChecks}
 
--- a word and a proof of the right lengths for a sound setting, all symbols in range
+-- a word and a proof of the right lengths for a sound setting, all symbols in range; a stored setting has the shift 0
 pub record Delivery (m : ℕ) (bs w π : List ℕ) : Type 0 where
-  pub setting : Sound m bs
+  pub setting : Sound m bs 0
   pub word : length w ≡ 2 ^ length bs
   pub proof : length π ≡ S (length bs)
   pub word-symbols : Below (2 ^ degree m) w

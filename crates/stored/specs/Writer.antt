@@ -21,8 +21,9 @@ lengthChecks k word proof out = (6, (word ≡ 2 ^ k → ⊥) ⊎ ((proof ≡ S k
 abbrev pub rangeChecks : ℕ → List ℕ → List ℕ → Checks
 rangeChecks m w π = (9, (Below (2 ^ degree m) w × Below (2 ^ degree m) π → ⊥)) ∷ []
 
+-- those of the setting with the shift 0, and then the two
 abbrev pub writerChecks : ℕ → List ℕ → List ℕ → List ℕ → ℕ → Checks
-writerChecks m bs w π out = settingChecks m bs ++ lengthChecks (length bs) (length w) (length π) out ++ rangeChecks m w π
+writerChecks m bs w π out = settingChecks m bs 0 ++ lengthChecks (length bs) (length w) (length π) out ++ rangeChecks m w π
 
 -- the output becomes the byte string; refused, it is as it came
 abbrev pub Wrote : ℕ → List ℕ → List ℕ → List ℕ → List ℕ → List ℕ → Outcome → Type 0

@@ -20,7 +20,7 @@ use Rattle.stored.specs.Written.{file-accepted, file-gives}
 
 module _ (m : ℕ) (bs w π : List ℕ) (out : ℕ) where
   abbrev setting : Checks
-  setting = settingChecks m bs
+  setting = settingChecks m bs 0
 
   abbrev lengths : Checks
   lengths = lengthChecks (length bs) (length w) (length π) out
@@ -35,26 +35,26 @@ module _ (m : ℕ) (bs w π : List ℕ) (out : ℕ) where
   setting-refused n l a = refused-first (setting ++ lengths) ranges n l (refused-first setting lengths n l a)
 
   pub length-refused : Passes setting → (n : ℕ) → 0 < n → Answers lengths n → Answers (writerChecks m bs w π out) n
-  length-refused p n l a = refused-first (setting ++ lengths) ranges n l (answers-after setting lengths n (setting-numbered m bs) p a)
+  length-refused p n l a = refused-first (setting ++ lengths) ranges n l (answers-after setting lengths n (setting-numbered m bs 0) p a)
 
   pub range-answer : Passes setting → Passes lengths → (n : ℕ) → Answers ranges n → Answers (writerChecks m bs w π out) n
   range-answer p q n a =
-      answers-after (setting ++ lengths) ranges n (numbered-append setting lengths (setting-numbered m bs) length-numbered)
-      (answers-after setting lengths 0 (setting-numbered m bs) p q) a
+      answers-after (setting ++ lengths) ranges n (numbered-append setting lengths (setting-numbered m bs 0) length-numbered)
+      (answers-after setting lengths 0 (setting-numbered m bs 0) p q) a
 
   -- what passed can be written
   pub writer-passed : Passes (writerChecks m bs w π out) → Delivery m bs w π × (out ≡ fileEnd (length bs))
-  writer-passed p = go (passes-each setting lengths (setting-numbered m bs) (parts .0)) (parts .1)
+  writer-passed p = go (passes-each setting lengths (setting-numbered m bs 0) (parts .0)) (parts .1)
     where
       parts : Passes (setting ++ lengths) × Passes ranges
-      parts = passes-each (setting ++ lengths) ranges (numbered-append setting lengths (setting-numbered m bs) length-numbered) p
+      parts = passes-each (setting ++ lengths) ranges (numbered-append setting lengths (setting-numbered m bs 0) length-numbered) p
 
       go : Passes setting × Passes lengths → Passes ranges → Delivery m bs w π × (out ≡ fileEnd (length bs))
       go (a, inl b) r = absurd (omega arith)
       go (a, inr b) (inl r) = absurd (omega arith)
       go (a, inr (b, z)) (inr (r, y)) = (
         record {
-          setting = sound m bs a;
+          setting = sound m bs 0 a;
           word = equal-stable (length w) (2 ^ length bs) (λ n. b (inl n));
           proof = equal-stable (length π) (S (length bs)) (λ n. b (inr (inl n)));
           word-symbols = below-stable (2 ^ degree m) w (λ n. r (λ t. n (t .0)));

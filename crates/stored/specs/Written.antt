@@ -155,7 +155,7 @@ module _ (m : ℕ) (bs w π : List ℕ) (d : Delivery m bs w π) where
   records =
       record {
         head = head;
-        setting = subst (Sound (modulusIn f)) (sym file-basis) (subst (λ (q : ℕ). Sound q bs) (sym file-modulus) (d .setting));
+        setting = subst (λ (b : List ℕ). Sound (modulusIn f) b 0) (sym file-basis) (subst (λ (q : ℕ). Sound q bs 0) (sym file-modulus) (d .setting));
         word = place (λ j. wordRecordAt j) (λ j. 2 ^ j) 87 79 (length w) (d .word) word-held;
         proof = place (λ j. proofRecordAt j) S 80 70 (length π) (d .proof) proof-held;
       }

@@ -58,7 +58,7 @@ fn basis_at(file: &[u8], k: usize) -> [u16; 16]
 
 // The setting of a setting record, or the number of the first check that refuses.
 pub fn setting_of(file: &[u8]) -> Checked
-    ensures { λ r. ⌜ SettledBy (settingChecks (now (file .entry))) (modulusIn (now (file .entry))) (basisIn (now (file .entry))) r ⌝ }
+    ensures { λ r. ⌜ SettledBy (settingChecks (now (file .entry))) (modulusIn (now (file .entry))) (basisIn (now (file .entry))) 0 r ⌝ }
 {
     let early = head_refusal(file);
     if early != 0 {
@@ -70,7 +70,7 @@ pub fn setting_of(file: &[u8]) -> Checked
     let f = modulus::field_of(bytes::four_at(file, 2));
     let k = file[6] as usize;
     let basis = basis_at(file, k);
-    space::check_basis(f, &basis[..k])
+    space::check_basis(f, &basis[..k], 0)
 }
 
 // Whether count two-byte numbers from index at on are all below 2^l.

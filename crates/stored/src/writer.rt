@@ -43,7 +43,7 @@ fn range_refusal(f: Field, word: &[u16], proof: &[u16]) -> u8
 pub fn refusal(modulus: u32, basis: &[u16], word: &[u16], proof: &[u16], out: usize) -> u8
     ensures { λ r. ⌜ Answers (writerChecks modulus (now (basis .entry)) (now (word .entry)) (now (proof .entry)) out) r ⌝ }
 {
-    let c = space::check(modulus, basis);
+    let c = space::check(modulus, basis, 0);
     let early = c.refusal;
     let f = c.setting.field;
     if early != 0 {

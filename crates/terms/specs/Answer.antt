@@ -30,16 +30,16 @@ module _ (cs : Checks) (K : Ops) (k : ℕ) (bs w π : List ℕ) (coin : ℕ) whe
   answered-one (Refused a) (Refused b) (l, r) (k, s) = ap Refused (answers-one cs r s)
 
 -- two deliveries of one length, alike at the coin's positions
-module _ (m : ℕ) (bs w π v ρ : List ℕ) (coin : ℕ) (lw : length w ≡ 2 ^ length bs) (lπ : length π ≡ S (length bs)) (lv : length v ≡ 2 ^ length bs) (lρ : length ρ ≡ S (length bs))
+module _ (m : ℕ) (bs : List ℕ) (σ : ℕ) (w π v ρ : List ℕ) (coin : ℕ) (lw : length w ≡ 2 ^ length bs) (lπ : length π ≡ S (length bs)) (lv : length v ≡ 2 ^ length bs) (lρ : length ρ ≡ S (length bs))
     (same : symbolsAt (length bs) w π coin ≡ symbolsAt (length bs) v ρ coin) where
-  same-checks : checkerChecks m bs w π coin ≡ checkerChecks m bs v ρ coin
+  same-checks : checkerChecks m bs σ w π coin ≡ checkerChecks m bs σ v ρ coin
   same-checks i =
-      settingChecks m bs ++ deliveryChecks (length bs) ((lw ∙ sym lv) i) ((lπ ∙ sym lρ) i) coin ++ ((9, (All (symbols m .Sym) (same i) → ⊥)) ∷ [])
+      settingChecks m bs σ ++ deliveryChecks (length bs) ((lw ∙ sym lv) i) ((lπ ∙ sym lρ) i) coin ++ ((9, (All (symbols m .Sym) (same i) → ⊥)) ∷ [])
 
   same-accepts : Accepts (symbols m) (dim (length bs)) bs w π coin ≡ Accepts (symbols m) (dim (length bs)) bs v ρ coin
   same-accepts = same-reads (symbols m) (dim (length bs)) bs w π v ρ lw lπ lv lρ coin same
 
-  pub same-answer : (u : Verdict) → Told m bs w π coin u → Told m bs v ρ coin u
+  pub same-answer : (u : Verdict) → Told m bs σ w π coin u → Told m bs σ v ρ coin u
   same-answer (Accept n) (p, e, s) = (transport (λ i. Passes (same-checks i)) p, e, transport same-accepts s)
   same-answer (Reject n) (p, e, s) = (transport (λ i. Passes (same-checks i)) p, e, λ t. s (transport (sym same-accepts) t))
   same-answer (Refused n) r = transport (λ i. Refuses (same-checks i) n) r

@@ -20,18 +20,18 @@ use Rattle.proximity.specs.TwoVariables.{Digits, compose}
 use Rattle.proximity.specs.Verifier.{positions}
 
 -- A setting is sound exactly when it passes checks 1 to 5.
-pub sound-exactly : (m : ℕ) (bs : List ℕ) → Passes (settingChecks m bs) ↔ Sound m bs
+pub sound-exactly : (m : ℕ) (bs : List ℕ) (σ : ℕ) → Passes (settingChecks m bs σ) ↔ Sound m bs σ
 sound-exactly = sound-iff
 
 -- Proposition 6.2: the Q from which the proof of P is laid out is the one polynomial with P(x) = Q(x, q(x)), degree in x below 2^h and degree in
 -- y below 2^(c-3).
-pub one-bivariate : (m : ℕ) (bs : List ℕ) (s : Sound m bs) (k : 7 ≤ length bs) (P : List ℕ) → length P ≡ 2 ^ (length bs - 3) → All (symbols m .Sym) P
+pub one-bivariate : (m : ℕ) (bs : List ℕ) (σ : ℕ) (s : Sound m bs σ) (k : 7 ≤ length bs) (P : List ℕ) → length P ≡ 2 ^ (length bs - 3) → All (symbols m .Sym) P
     → Splits (sound-field s) (length bs) bs k (s .basis) P (bivariate (symbols m) (length bs) bs P)
     × ((Q : List (List ℕ)) → Splits (sound-field s) (length bs) bs k (s .basis) P Q → Q ≡ bivariate (symbols m) (length bs) bs P)
-one-bivariate m bs s k = proposition (sound-field s) (length bs) bs k (s .basis)
+one-bivariate m bs σ s k = proposition (sound-field s) (length bs) bs k (s .basis)
 
 -- The same of polynomials, and not of their values alone: `compose` multiplies Q(x, q(x)) out, and it is P, coefficient by coefficient;
-module _ (m : ℕ) (bs : List ℕ) (s : Sound m bs) (k : 7 ≤ length bs) (P : List ℕ) (l : length P ≡ 2 ^ (length bs - 3)) (e : All (symbols m .Sym) P) where
+module _ (m : ℕ) (bs : List ℕ) (σ : ℕ) (s : Sound m bs σ) (k : 7 ≤ length bs) (P : List ℕ) (l : length P ≡ 2 ^ (length bs - 3)) (e : All (symbols m .Sym) P) where
   pub composed : compose (symbols m) (qCoeffs (symbols m) (length bs) bs) (bivariate (symbols m) (length bs) bs P) ≡ P
   composed = formal (sound-field s) (length bs) bs k (s .basis) P l e
 

@@ -12,12 +12,14 @@ use Rattle.field.specs.Binary.{_⊕_, product, degree}
 use Rattle.field.specs.Checks.{not-less}
 use Rattle.field.specs.Symbols.{symbols}
 use Rattle.poly.specs.Codeword.{Codeword}
-use Rattle.space.specs.Sound.{Sound}
+use Rattle.poly.specs.Shift.{word-at-zero}
+use Rattle.space.specs.Sound.{Sound, sound-field}
 use Rattle.proximity.specs.Cases.{basis-8, fives}
 use Rattle.codec.specs.RoundTrip.{length-word}
 use Rattle.correction.specs.Calls.{CorrectedWord}
 use Rattle.correction.specs.Differences.{differences, differences-self, differences-set, differences-none}
-use Rattle.correction.specs.Near.{radius}
+use Rattle.correction.specs.Near as correction
+use Rattle.correction.specs.Near.{radius, near-shift}
 use Rattle.correction.specs.Scratch.{correctionScratch}
 use Rattle.correction.specs.declared.Correction.{Correction}
 use Rattle.correction.specs.declared.Correction.the-variants.{Corrected, Refused}
@@ -38,18 +40,22 @@ correctionAt (Near n) = Corrected n
 correctionAt Far = Refused 13
 
 -- a word in a sound setting
-module _ (m : ℕ) (bs : List ℕ) (s : Sound m bs) (w : List ℕ) (lw : length w ≡ 2 ^ length bs) where
+module _ (m : ℕ) (bs : List ℕ) (s : Sound m bs 0) (w : List ℕ) (lw : length w ≡ 2 ^ length bs) where
   abbrev IsCodeword : List ℕ → Type 0
   IsCodeword c = Codeword (symbols m) (length bs) bs c
 
   abbrev bound : ℕ
   bound = radius (2 ^ length bs)
 
+  -- near at the shift 0, which files have
+  at-zero : (c : List ℕ) → correction.NearAt (symbols m) 0 (length bs) bs w c ↔ correction.Near (symbols m) (length bs) bs w c
+  at-zero = near-shift (sound-field s) 0 (s .shift) (length bs) bs w
+
   as-corrected : Below (2 ^ degree m) w → (d : Distance) → Off m bs w d → (old new scratch left : List ℕ) (u : Correction) → length old ≡ 2 ^ length bs
-      → correctionScratch (length bs) ≤ length scratch → CorrectedWord m bs w old new scratch left u → u ≡ correctionAt d
+      → correctionScratch (length bs) ≤ length scratch → CorrectedWord m bs 0 w old new scratch left u → u ≡ correctionAt d
   as-corrected h (Near n) (c, x) old new scratch left u lo ls t =
-      near-found m bs w old new scratch left (early-right m bs s w old scratch lw lo ls) h c (x .near) u t .0 ∙ ap Corrected (sym (x .count))
-  as-corrected h Far none old new scratch left u lo ls t = thirteen-exactly m bs w old new scratch left (early-right m bs s w old scratch lw lo ls) h u t .1 none
+      near-found m bs 0 w old new scratch left (early-right m bs 0 s w old scratch lw lo ls) h c (at-zero c .1 (x .near)) u t .0 ∙ ap Corrected (sym (x .count))
+  as-corrected h Far none old new scratch left u lo ls t = thirteen-exactly m bs 0 w old new scratch left (early-right m bs 0 s w old scratch lw lo ls) h u t .1 (λ c x. none c (at-zero c .0 x))
 
   near-off : (d : Distance) → Off m bs w d → (c : List ℕ) → IsCodeword c → differences w c ≤ bound → d ≡ Near (differences w c)
   near-off d o c g h = off-one m bs s w lw d (Near (differences w c)) o (c, record { near = record { codeword = g; close = h }; count = refl })
@@ -69,7 +75,7 @@ module _ (m : ℕ) (bs : List ℕ) (s : Sound m bs) (w : List ℕ) (lw : length 
       by : Off m bs w (Near 0) → IsCodeword w
       by (c, x) =
           let (p, lp, sp, e) = x .near .codeword in
-          subst (Codeword (symbols m) (length bs) bs) (sym (differences-none w c (lw ∙ sym (length-word m bs s p c e)) (sym (x .count)))) (x .near .codeword)
+          subst (Codeword (symbols m) (length bs) bs) (sym (differences-none w c (lw ∙ sym (length-word m bs 0 s p c (e ∙ sym (word-at-zero (sound-field s) (length bs) bs p)))) (sym (x .count)))) (x .near .codeword)
 
   few-off : (n : ℕ) → Off m bs w (Near n) → n ≤ bound
   few-off n (c, x) = omega (arith, x .count, x .near .close)
@@ -83,7 +89,7 @@ module _ (f : List ℕ) (c : Counts) (t : Told f c) (z : c .refusal ≡ 0) where
       by (inl (p, y, u)) = (p, u)
       by (inr ((l, a), e)) = absurd (omega arith)
 
-  setting : Sound (modulusIn f) (basisIn f)
+  setting : Sound (modulusIn f) (basisIn f) 0
   setting = accepted f (counted-file f (counted .0)) .records .setting
 
   in-range : Below (2 ^ degree (modulusIn f)) (wordIn f)
@@ -95,7 +101,7 @@ module _ (f : List ℕ) (c : Counts) (t : Told f c) (z : c .refusal ≡ 0) where
 
   -- It is what correction answers for the word of the file, by a call with room enough: the number of differences, or far for 13.
   pub off-as-corrected : (old new scratch left : List ℕ) (u : Correction) → length old ≡ length (wordIn f) → correctionScratch (length (basisIn f)) ≤ length scratch
-      → CorrectedWord (modulusIn f) (basisIn f) (wordIn f) old new scratch left u → u ≡ correctionAt (c .off)
+      → CorrectedWord (modulusIn f) (basisIn f) 0 (wordIn f) old new scratch left u → u ≡ correctionAt (c .off)
   off-as-corrected old new scratch left u lo =
       as-corrected (modulusIn f) (basisIn f) setting (wordIn f) (word-length f) in-range (c .off) off old new scratch left u (lo ∙ word-length f)
 

@@ -21,6 +21,7 @@ use Rattle.stored.specs.OnSymbols as on-symbols
 use Rattle.stored.specs.Passed.{length-basis}
 use Rattle.stored.specs.Reader.{fileChecks}
 use Rattle.stored.specs.Whole.{Delivery, accepted-delivery}
+use Rattle.prover.specs.Determined.{proof-shift}
 use Rattle.host.specs.Answer.{codeOf, readsAfter, HostAnswer}
 use Rattle.terms.specs.Answer.{same-answer}
 use Rattle.terms.specs.OneAnswer.{one-file-answer}
@@ -29,15 +30,15 @@ use Rattle.terms.specs.Terms.{AcceptedAtAllCoins, PairOfAPolynomial, acc
 
 -- ---- stored files
 
--- The checker over an accepted file answers as the checker on the setting, the word and the proof in it.
-pub file-answers : (f : List ℕ) → Passes (fileChecks f) → (coin : ℕ) (v : Verdict) → AnsweredFile f coin v ↔ Told (modulusIn f) (basisIn f) (wordIn f) (proofIn f) coin v
+-- The checker over an accepted file answers as the checker on the setting, with the shift 0, the word and the proof in it.
+pub file-answers : (f : List ℕ) → Passes (fileChecks f) → (coin : ℕ) (v : Verdict) → AnsweredFile f coin v ↔ Told (modulusIn f) (basisIn f) 0 (wordIn f) (proofIn f) coin v
 file-answers = on-symbols.file-answers
 
 -- Two accepted files of one setting, alike at the coin's positions, get the same answer at that coin, a refusal included.
 module _ (f g : List ℕ) (pf : Passes (fileChecks f)) (pg : Passes (fileChecks g)) (em : modulusIn f ≡ modulusIn g) (eb : basisIn f ≡ basisIn g) (coin : ℕ)
     (alike : map (readAt (wordIn f) (proofIn f)) (positions (dim (dimIn f)) coin) ≡ map (readAt (wordIn g) (proofIn g)) (positions (dim (dimIn f)) coin)) where
   pub alike-files : (v : Verdict) → AnsweredFile f coin v → AnsweredFile g coin v
-  alike-files v a = file-answers g pg coin v .1 (transport (λ i. Told (em i) (eb i) (wordIn g) (proofIn g) coin v) in-setting)
+  alike-files v a = file-answers g pg coin v .1 (transport (λ i. Told (em i) (eb i) 0 (wordIn g) (proofIn g) coin v) in-setting)
     where
       df : Delivery (modulusIn f) (basisIn f) (wordIn f) (proofIn f)
       df = accepted-delivery f pf
@@ -45,9 +46,9 @@ module _ (f g : List ℕ) (pf : Passes (fileChecks f)) (pg : Passes (fileChecks 
       dg : Delivery (modulusIn g) (basisIn g) (wordIn g) (proofIn g)
       dg = accepted-delivery g pg
 
-      in-setting : Told (modulusIn f) (basisIn f) (wordIn g) (proofIn g) coin v
+      in-setting : Told (modulusIn f) (basisIn f) 0 (wordIn g) (proofIn g) coin v
       in-setting =
-          same-answer (modulusIn f) (basisIn f) (wordIn f) (proofIn f) (wordIn g) (proofIn g) coin (df .word) (df .proof)
+          same-answer (modulusIn f) (basisIn f) 0 (wordIn f) (proofIn f) (wordIn g) (proofIn g) coin (df .word) (df .proof)
           (dg .word ∙ ap (λ (b : List ℕ). 2 ^ length b) (sym eb)) (dg .proof ∙ ap (λ (b : List ℕ). S (length b)) (sym eb))
           (subst (λ (k : ℕ). map (readAt (wordIn f) (proofIn f)) (positions (dim k) coin) ≡ map (readAt (wordIn g) (proofIn g)) (positions (dim k) coin)) (sym (length-basis f)) alike)
           v (file-answers f pf coin v .0 a)
@@ -92,9 +93,18 @@ module _ (f : List ℕ) (p : Passes (fileChecks f)) where
       d : Delivery (modulusIn f) (basisIn f) (wordIn f) (proofIn f)
       d = accepted-delivery f p
 
-      on-symbols-exactly : AcceptedAtAllCoins (modulusIn f) (basisIn f) (d .setting) (wordIn f) (proofIn f) (d .word) (d .proof)
-          ↔ PairOfAPolynomial (modulusIn f) (basisIn f) (d .setting) (wordIn f) (proofIn f) (d .word) (d .proof)
-      on-symbols-exactly = accepted-exactly (modulusIn f) (basisIn f) (d .setting) (wordIn f) (proofIn f) (d .word) (d .proof)
+      -- the pairs of the shift 0 are those without a shift
+      pairs : PairOfAPolynomial (modulusIn f) (basisIn f) 0 (d .setting) (wordIn f) (proofIn f) (d .word) (d .proof)
+          ↔ ((P : List ℕ) × Honest (symbols (modulusIn f)) (dim (length (basisIn f))) (basisIn f) (wordIn f) (proofIn f) P)
+      pairs = proof-shift (d .setting) (wordIn f) (proofIn f)
+
+      exactly : AcceptedAtAllCoins (modulusIn f) (basisIn f) 0 (d .setting) (wordIn f) (proofIn f) (d .word) (d .proof)
+          ↔ PairOfAPolynomial (modulusIn f) (basisIn f) 0 (d .setting) (wordIn f) (proofIn f) (d .word) (d .proof)
+      exactly = accepted-exactly (modulusIn f) (basisIn f) 0 (d .setting) (wordIn f) (proofIn f) (d .word) (d .proof)
+
+      on-symbols-exactly : AcceptedAtAllCoins (modulusIn f) (basisIn f) 0 (d .setting) (wordIn f) (proofIn f) (d .word) (d .proof)
+          ↔ ((P : List ℕ) × Honest (symbols (modulusIn f)) (dim (length (basisIn f))) (basisIn f) (wordIn f) (proofIn f) P)
+      on-symbols-exactly = ((λ a. pairs .0 (exactly .0 a)), λ H. exactly .1 (pairs .1 H))
 
       zero-accepts : (coin reads : ℕ) → ToldApart f coin 0 reads 0 → AnsweredFile f coin (Accept reads)
       zero-accepts coin reads (inl a) = a .1

@@ -13,7 +13,7 @@ use Rattle.proximity.specs.Proof.{slot, heightOf}
 use Rattle.proximity.specs.Spaces.{q, rowBasis, colBasis}
 use Rattle.proximity.specs.Subspaces.{row-elem, slot-elem, col-elem, q-coset}
 
-module _ (m : ℕ) (bs : List ℕ) (s : Sound m bs) (h : 7 ≤ length bs) where
+module _ (m : ℕ) (bs : List ℕ) (σ : ℕ) (s : Sound m bs σ) (h : 7 ≤ length bs) where
   abbrev k : ℕ
   k = length bs
 

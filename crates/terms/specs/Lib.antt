@@ -9,6 +9,7 @@ pub mod Geometry
 pub mod Agreement
 pub mod Corrections
 pub mod Terms
+pub mod Shifts
 pub mod UnusedBits
 pub mod Settings
 pub mod CaseVerdicts

@@ -13,7 +13,7 @@ numbers =
     (1, "the modulus is below 8 or above 131071")
     ∷ (2, "the modulus is reducible")
     ∷ (3, "the basis has fewer than 3 or more than 12 elements")
-    ∷ (4, "a basis element is not below 2^l, l being the degree of the modulus")
+    ∷ (4, "a basis element or the shift is not below 2^l, l being the degree of the modulus")
     ∷ (5, "the basis is dependent (a zero or a repeat included)")
     ∷ (6, "a lent list has another length than the setting fixes, or a file is above its limit")
     ∷ (7, "the scratch is shorter than the call takes")

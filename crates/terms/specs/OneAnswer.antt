@@ -31,17 +31,17 @@ one-value cs v (value.Refused n) (value.Symbol b) r (q, f) = absurd (not-refused
 one-value cs v (value.Refused a) (value.Refused b) (l, r) (k, s) = ap value.Refused (answers-one cs r s)
 
 -- The check of a setting: the number and all that the setting holds, a refused call included.
-pub one-setting : (m : ℕ) (bs : List ℕ) (c d : Checked) → Settled m bs c → Settled m bs d → c ≡ d
-one-setting m bs c d = by
+pub one-setting : (m : ℕ) (bs : List ℕ) (σ : ℕ) (c d : Checked) → Settled m bs σ c → Settled m bs σ d → c ≡ d
+one-setting m bs σ c d = by
   where
     same : c .refusal ≡ d .refusal → c .setting ≡ d .setting → c ≡ d
     same e f = λ i. record { refusal = e i; setting = f i }
 
-    by : Settled m bs c → Settled m bs d → c ≡ d
+    by : Settled m bs σ c → Settled m bs σ d → c ≡ d
     by (inl (p, z, e)) (inl (q, y, f)) = same (z ∙ sym y) (e ∙ sym f)
-    by (inl (p, z, e)) (inr (r, f)) = absurd (not-refused (settingChecks m bs) p r)
-    by (inr (r, e)) (inl (q, y, f)) = absurd (not-refused (settingChecks m bs) q r)
-    by (inr ((l, r), e)) (inr ((k, s), f)) = same (answers-one (settingChecks m bs) r s) (e ∙ sym f)
+    by (inl (p, z, e)) (inr (r, f)) = absurd (not-refused (settingChecks m bs σ) p r)
+    by (inr (r, e)) (inl (q, y, f)) = absurd (not-refused (settingChecks m bs σ) q r)
+    by (inr ((l, r), e)) (inr ((k, s), f)) = same (answers-one (settingChecks m bs σ) r s) (e ∙ sym f)
 
 -- The readers of a stored file, each by its table of checks: the number, the setting and the places.
 pub one-reading : (cs : Checks) (f : List ℕ) (r s : Reading) → Told cs f r → Told cs f s → r ≡ s

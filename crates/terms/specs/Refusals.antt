@@ -66,33 +66,33 @@ module _ (cs : Checks) (old new scratch left : List ℕ) where
   done Right p Done t = refl
   done Right p (Refused n) t = absurd (not-refused cs p (t .refuses))
 
-module _ (m : ℕ) (bs p old new scratch left : List ℕ) where
-  pub refused-encoding : (n : ℕ) → Encoded m bs p old new scratch left (Refused n) → LeftBy 9 n old new scratch left
-  refused-encoding = left-by (encodeChecks m bs p (length old) (length scratch)) old new scratch left 9 (omega arith) (search (arith) depth 30)
+module _ (m : ℕ) (bs : List ℕ) (σ : ℕ) (p old new scratch left : List ℕ) where
+  pub refused-encoding : (n : ℕ) → Encoded m bs σ p old new scratch left (Refused n) → LeftBy 9 n old new scratch left
+  refused-encoding = left-by (encodeChecks m bs σ p (length old) (length scratch)) old new scratch left 9 (omega arith) (search (arith) depth 30)
 
-  pub refused-decoding : (n : ℕ) → Decoded m bs p old new scratch left (Refused n) → LeftBy 10 n old new scratch left
-  refused-decoding = left-by (decodeChecks m bs p (length old) (length scratch)) old new scratch left 10 (omega arith) (search (arith) depth 30)
+  pub refused-decoding : (n : ℕ) → Decoded m bs σ p old new scratch left (Refused n) → LeftBy 10 n old new scratch left
+  refused-decoding = left-by (decodeChecks m bs σ p (length old) (length scratch)) old new scratch left 10 (omega arith) (search (arith) depth 30)
 
-  pub refused-proving : (n : ℕ) → Proven m bs p old new scratch left (Refused n) → LeftBy 10 n old new scratch left
-  refused-proving = left-by (proveChecks m bs p (length old) (length scratch)) old new scratch left 10 (omega arith) (search (arith) depth 30)
+  pub refused-proving : (n : ℕ) → Proven m bs σ p old new scratch left (Refused n) → LeftBy 10 n old new scratch left
+  refused-proving = left-by (proveChecks m bs σ p (length old) (length scratch)) old new scratch left 10 (omega arith) (search (arith) depth 30)
 
-  pub refused-correcting : (n : ℕ) → CorrectedWord m bs p old new scratch left (correction.Refused n) → LeftBy 13 n old new scratch left
-  refused-correcting = left-by (correctChecks m bs p (length old) (length scratch)) old new scratch left 13 (omega arith) (search (arith) depth 30)
+  pub refused-correcting : (n : ℕ) → CorrectedWord m bs σ p old new scratch left (correction.Refused n) → LeftBy 13 n old new scratch left
+  refused-correcting = left-by (correctChecks m bs σ p (length old) (length scratch)) old new scratch left 13 (omega arith) (search (arith) depth 30)
 
   -- a call that no check refuses is done
-  pub encoding-done : Passes (encodeChecks m bs p (length old) (length scratch)) → (u : Outcome) → Encoded m bs p old new scratch left u → u ≡ Done
-  encoding-done = done (encodeChecks m bs p (length old) (length scratch)) old new scratch left _
+  pub encoding-done : Passes (encodeChecks m bs σ p (length old) (length scratch)) → (u : Outcome) → Encoded m bs σ p old new scratch left u → u ≡ Done
+  encoding-done = done (encodeChecks m bs σ p (length old) (length scratch)) old new scratch left _
 
-  pub decoding-done : Passes (decodeChecks m bs p (length old) (length scratch)) → (u : Outcome) → Decoded m bs p old new scratch left u → u ≡ Done
-  decoding-done = done (decodeChecks m bs p (length old) (length scratch)) old new scratch left _
+  pub decoding-done : Passes (decodeChecks m bs σ p (length old) (length scratch)) → (u : Outcome) → Decoded m bs σ p old new scratch left u → u ≡ Done
+  decoding-done = done (decodeChecks m bs σ p (length old) (length scratch)) old new scratch left _
 
-  pub proving-done : Passes (proveChecks m bs p (length old) (length scratch)) → (u : Outcome) → Proven m bs p old new scratch left u → u ≡ Done
-  proving-done = done (proveChecks m bs p (length old) (length scratch)) old new scratch left _
+  pub proving-done : Passes (proveChecks m bs σ p (length old) (length scratch)) → (u : Outcome) → Proven m bs σ p old new scratch left u → u ≡ Done
+  proving-done = done (proveChecks m bs σ p (length old) (length scratch)) old new scratch left _
 
-  pub correcting-done : Passes (correctChecks m bs p (length old) (length scratch)) → (u : Correction) → CorrectedWord m bs p old new scratch left u
+  pub correcting-done : Passes (correctChecks m bs σ p (length old) (length scratch)) → (u : Correction) → CorrectedWord m bs σ p old new scratch left u
       → (n : ℕ) × (u ≡ correction.Corrected n)
   correcting-done a (correction.Corrected n) t = (n, refl)
-  correcting-done a (correction.Refused n) t = absurd (not-refused (correctChecks m bs p (length old) (length scratch)) a (t .refuses))
+  correcting-done a (correction.Refused n) t = absurd (not-refused (correctChecks m bs σ p (length old) (length scratch)) a (t .refuses))
 
 -- ---- the other calls
 
@@ -101,9 +101,9 @@ pub refused-value : (m a b v n : ℕ) → field.Told (field.fieldChecks m a b) v
 refused-value m a b v n = one-of 9 (field.fieldChecks m a b) (omega arith) (search (arith) depth 30)
 
 -- the check of a setting, which hands back no setting with a number
-pub refused-setting : (m : ℕ) (bs : List ℕ) (c : Checked) → Settled m bs c → 0 < c .refusal → OneOf 5 (c .refusal) × (c .setting ≡ noSetting)
-refused-setting m bs c (inl (p, z, e)) h = absurd (omega arith)
-refused-setting m bs c (inr (a, e)) h = (one-of 5 (settingChecks m bs) (omega arith) (search (arith) depth 30) a, e)
+pub refused-setting : (m : ℕ) (bs : List ℕ) (σ : ℕ) (c : Checked) → Settled m bs σ c → 0 < c .refusal → OneOf 5 (c .refusal) × (c .setting ≡ noSetting)
+refused-setting m bs σ c (inl (p, z, e)) h = absurd (omega arith)
+refused-setting m bs σ c (inr (a, e)) h = (one-of 5 (settingChecks m bs σ) (omega arith) (search (arith) depth 30) a, e)
 
 -- the readers of stored files, which hand back the number alone
 module _ (f : List ℕ) (r : Reading) where
@@ -129,8 +129,8 @@ refused-entry s e (inl (p, z, t, g)) h = absurd (omega arith)
 refused-entry s e (inr (a, g)) h = (one-of 12 (entryChecks s) (omega arith) (search (arith) depth 40) a, g)
 
 -- the checker, which writes nothing
-pub refused-check : (m : ℕ) (bs w π : List ℕ) (coin n : ℕ) → checker.Told m bs w π coin (verdict.Refused n) → OneOf 9 n
-refused-check m bs w π coin n = one-of 9 (checker.checkerChecks m bs w π coin) (omega arith) (search (arith) depth 30)
+pub refused-check : (m : ℕ) (bs : List ℕ) (σ : ℕ) (w π : List ℕ) (coin n : ℕ) → checker.Told m bs σ w π coin (verdict.Refused n) → OneOf 9 n
+refused-check m bs σ w π coin n = one-of 9 (checker.checkerChecks m bs σ w π coin) (omega arith) (search (arith) depth 30)
 
 -- the checker over a stored file, and the number that a file gets by itself
 pub refused-file-check : (f : List ℕ) (coin n : ℕ) → AnsweredFile f coin (verdict.Refused n) → OneOf 12 n

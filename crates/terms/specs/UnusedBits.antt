@@ -58,16 +58,16 @@ module _ (K : Ops) (k : ℕ) (bs w π : List ℕ) (coin other : ℕ) (same : Sam
   same-answered cs ds f (Refused n) (l, a) = (l, f n a)
 
 -- The checker: two coins below 2^R(k) that agree in the used bits get the same answer, a refusal included.
-module _ (m : ℕ) (bs w π : List ℕ) where
+module _ (m : ℕ) (bs : List ℕ) (σ : ℕ) (w π : List ℕ) where
   onward : (coin other : ℕ) → coin < 2 ^ R (length bs) → other < 2 ^ R (length bs) → SameUsed (dim (length bs)) coin other
-      → (answer : Verdict) → Told m bs w π coin answer → Told m bs w π other answer
+      → (answer : Verdict) → Told m bs σ w π coin answer → Told m bs σ w π other answer
   onward coin other h l same =
-      same-answered (symbols m) (length bs) bs w π coin other same (checkerChecks m bs w π coin) (checkerChecks m bs w π other)
-      (λ n. both-in-range n (2 ^ R (length bs)) coin other h l (settingChecks m bs ++ ((6, (length w ≡ 2 ^ length bs → ⊥) ⊎ (length π ≡ S (length bs) → ⊥)) ∷ []))
+      same-answered (symbols m) (length bs) bs w π coin other same (checkerChecks m bs σ w π coin) (checkerChecks m bs σ w π other)
+      (λ n. both-in-range n (2 ^ R (length bs)) coin other h l (settingChecks m bs σ ++ ((6, (length w ≡ 2 ^ length bs → ⊥) ⊎ (length π ≡ S (length bs) → ⊥)) ∷ []))
       (readChecks (symbols m) (length bs) w π coin) (readChecks (symbols m) (length bs) w π other) (same-reads (symbols m) (length bs) bs w π coin other same n))
 
   pub unused-bits : (coin other : ℕ) → coin < 2 ^ R (length bs) → other < 2 ^ R (length bs)
-      → other % 2 ^ used (dim (length bs)) coin ≡ coin % 2 ^ used (dim (length bs)) coin → (answer : Verdict) → Told m bs w π coin answer ↔ Told m bs w π other answer
+      → other % 2 ^ used (dim (length bs)) coin ≡ coin % 2 ^ used (dim (length bs)) coin → (answer : Verdict) → Told m bs σ w π coin answer ↔ Told m bs σ w π other answer
   unused-bits coin other h l same v = (onward coin other h l same v, onward other coin l h (same-used-back (dim (length bs)) coin other same) v)
 
 -- The checker over a stored file,

@@ -29,9 +29,9 @@ deliveryChecks k word proof coin = (6, (word ≡ 2 ^ k → ⊥) ⊎ (proof ≡ S
 abbrev pub readChecks : Ops → ℕ → List ℕ → List ℕ → ℕ → Checks
 readChecks K k w π coin = (9, (All (K .Sym) (symbolsAt k w π coin) → ⊥)) ∷ []
 
-abbrev pub checkerChecks : ℕ → List ℕ → List ℕ → List ℕ → ℕ → Checks
-checkerChecks m bs w π coin =
-    settingChecks m bs ++ deliveryChecks (length bs) (length w) (length π) coin ++ readChecks (symbols m) (length bs) w π coin
+abbrev pub checkerChecks : ℕ → List ℕ → ℕ → List ℕ → List ℕ → ℕ → Checks
+checkerChecks m bs σ w π coin =
+    settingChecks m bs σ ++ deliveryChecks (length bs) (length w) (length π) coin ++ readChecks (symbols m) (length bs) w π coin
 
 -- the answer, past the checks cs
 abbrev pub Answered : Checks → Ops → ℕ → List ℕ → List ℕ → List ℕ → ℕ → Verdict → Type 0
@@ -39,9 +39,9 @@ Answered cs K k bs w π coin (Accept n) = Passes cs × (n ≡ readsOf k coin) ×
 Answered cs K k bs w π coin (Reject n) = Passes cs × (n ≡ readsOf k coin) × (Accepts K (dim k) bs w π coin → ⊥)
 Answered cs K k bs w π coin (Refused n) = Refuses cs n
 
--- the checker's answer for a modulus, a basis, a word, a proof and a coin
-abbrev pub Told : ℕ → List ℕ → List ℕ → List ℕ → ℕ → Verdict → Type 0
-Told m bs w π coin = Answered (checkerChecks m bs w π coin) (symbols m) (length bs) bs w π coin
+-- the checker's answer for a modulus, a basis, a shift, a word, a proof and a coin: rows and columns are those of the span, and the shift is checked alone
+abbrev pub Told : ℕ → List ℕ → ℕ → List ℕ → List ℕ → ℕ → Verdict → Type 0
+Told m bs σ w π coin = Answered (checkerChecks m bs σ w π coin) (symbols m) (length bs) bs w π coin
 
 -- the answer past checks 1 to 8
 abbrev pub OnCoin : Ops → ℕ → List ℕ → List ℕ → List ℕ → ℕ → Verdict → Type 0

@@ -7,13 +7,20 @@ use native.Mathlib.Omega.{arith}
 use lib.ListN.{length}
 use Rattle.lists.specs.Answers.{Checks, Answers, Passes, Numbered, answers-after, refused-first, numbered-append}
 use Rattle.lists.specs.Decides.{equal-stable}
+use Rattle.field.specs.Laws.{Ops}
 use Rattle.field.specs.Symbols.{symbols}
 use Rattle.space.specs.Setting.{settingChecks}
 use Rattle.space.specs.Sound.{setting-numbered}
 use Rattle.proximity.specs.Dim.{S, R}
-use Rattle.verifier.specs.Checker.{deliveryChecks, readChecks, checkerChecks, OnCoin, Told}
+use Rattle.verifier.specs.Checker.{deliveryChecks, readChecks, checkerChecks, Answered, OnCoin, Told}
 use Rattle.verifier.specs.declared.Verdict.{Verdict}
 use Rattle.verifier.specs.declared.Verdict.the-variants.{Accept, Reject, Refused}
+
+-- tables that give the same number give the same answer
+pub answered-alike : (cs ds : Checks) → ((r : ℕ) → Answers cs r → Answers ds r) → (K : Ops) (k : ℕ) (b w π : List ℕ) (coin : ℕ) (v : Verdict) → Answered cs K k b w π coin v → Answered ds K k b w π coin v
+answered-alike cs ds f K k b w π coin (Accept n) (p, e, a) = (f 0 p, e, a)
+answered-alike cs ds f K k b w π coin (Reject n) (p, e, a) = (f 0 p, e, a)
+answered-alike cs ds f K k b w π coin (Refused n) (l, a) = (l, f n a)
 
 delivery-numbered : (k w p coin : ℕ) → Numbered (deliveryChecks k w p coin)
 delivery-numbered k w p coin = (omega arith, (omega arith, tt))
@@ -36,26 +43,26 @@ delivery-passes k w p coin ew ep h = inr (lengths, inr ((λ l. omega arith), ref
     lengths (inl f) = f ew
     lengths (inr f) = f ep
 
-module _ (m : ℕ) (bs w π : List ℕ) (coin : ℕ) where
+module _ (m : ℕ) (bs : List ℕ) (σ : ℕ) (w π : List ℕ) (coin : ℕ) where
   abbrev delivery : Checks
   delivery = deliveryChecks (length bs) (length w) (length π) coin
 
   abbrev reading : Checks
   reading = readChecks (symbols m) (length bs) w π coin
 
-  pub told-setting : (n : ℕ) → 0 < n → Answers (settingChecks m bs) n → Told m bs w π coin (Refused n)
-  told-setting n l a = (l, refused-first (settingChecks m bs ++ delivery) reading n l (refused-first (settingChecks m bs) delivery n l a))
+  pub told-setting : (n : ℕ) → 0 < n → Answers (settingChecks m bs σ) n → Told m bs σ w π coin (Refused n)
+  told-setting n l a = (l, refused-first (settingChecks m bs σ ++ delivery) reading n l (refused-first (settingChecks m bs σ) delivery n l a))
 
-  both : Passes (settingChecks m bs) → (n : ℕ) → Answers delivery n → Answers (settingChecks m bs ++ delivery) n
-  both p n a = answers-after (settingChecks m bs) delivery n (setting-numbered m bs) p a
+  both : Passes (settingChecks m bs σ) → (n : ℕ) → Answers delivery n → Answers (settingChecks m bs σ ++ delivery) n
+  both p n a = answers-after (settingChecks m bs σ) delivery n (setting-numbered m bs σ) p a
 
-  pub told-delivery : Passes (settingChecks m bs) → (n : ℕ) → 0 < n → Answers delivery n → Told m bs w π coin (Refused n)
-  told-delivery p n l a = (l, refused-first (settingChecks m bs ++ delivery) reading n l (both p n a))
+  pub told-delivery : Passes (settingChecks m bs σ) → (n : ℕ) → 0 < n → Answers delivery n → Told m bs σ w π coin (Refused n)
+  told-delivery p n l a = (l, refused-first (settingChecks m bs σ ++ delivery) reading n l (both p n a))
 
-  after : Passes (settingChecks m bs) → Passes delivery → (n : ℕ) → Answers reading n → Answers (checkerChecks m bs w π coin) n
-  after p d n a = answers-after (settingChecks m bs ++ delivery) reading n (numbered-append (settingChecks m bs) delivery (setting-numbered m bs) (delivery-numbered (length bs) (length w) (length π) coin)) (both p 0 d) a
+  after : Passes (settingChecks m bs σ) → Passes delivery → (n : ℕ) → Answers reading n → Answers (checkerChecks m bs σ w π coin) n
+  after p d n a = answers-after (settingChecks m bs σ ++ delivery) reading n (numbered-append (settingChecks m bs σ) delivery (setting-numbered m bs σ) (delivery-numbered (length bs) (length w) (length π) coin)) (both p 0 d) a
 
-  pub told-coin : Passes (settingChecks m bs) → Passes delivery → (v : Verdict) → OnCoin (symbols m) (length bs) bs w π coin v → Told m bs w π coin v
+  pub told-coin : Passes (settingChecks m bs σ) → Passes delivery → (v : Verdict) → OnCoin (symbols m) (length bs) bs w π coin v → Told m bs σ w π coin v
   told-coin p d (Accept n) (a, r, s) = (after p d 0 a, r, s)
   told-coin p d (Reject n) (a, r, s) = (after p d 0 a, r, s)
   told-coin p d (Refused n) (l, a) = (l, after p d n a)

@@ -34,20 +34,22 @@ fn delivery_refusal(k: usize, word: usize, proof: usize, coin: u64) -> u8
 }
 
 // The checker for one coin: checks 1 to 6, 8, and 9 of the symbols that the coin reads; then the
-// verdict, with the number of symbols read. It writes nothing.
+// verdict, with the number of symbols read. It writes nothing. Past check 4 the shift changes nothing:
+// rows and columns are those of the span.
 //
 // Ruled out: accept for a pair whose row or column at this coin is no codeword, as a checker would
 // say that waves columns through; 9 for a symbol that the coin does not read.
 pub fn check<'a>(
     modulus: u32,
     basis: &[u16],
+    shift: u16,
     word: &'a [u16],
     proof: &'a [u16],
     coin: u64,
 ) -> Verdict
-    ensures { λ v. ⌜ Told modulus (now (basis .entry)) (now (word .entry)) (now (proof .entry)) coin v ⌝ }
+    ensures { λ v. ⌜ Told modulus (now (basis .entry)) shift (now (word .entry)) (now (proof .entry)) coin v ⌝ }
 {
-    let checked = space::check(modulus, basis);
+    let checked = space::check(modulus, basis, shift);
     let n = checked.refusal;
     if n != 0 {
         return Verdict::Refused(n);

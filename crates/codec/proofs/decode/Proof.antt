@@ -9,7 +9,7 @@ use Rattle.lists.specs.Calls.{zeros}
 use Rattle.space.specs.Ready.{Ready}
 use Rattle.codec.specs.Calls.{wordChecks, Decoded}
 use Rattle.codec.specs.Checks.{earlyChecks, early-numbered}
-use Rattle.codec.proofs.CallLaws.{early-passes, early-ready, early-lengths, early-refused, dimensions, ready-usable, ready-lengths, told-of, decode-done, decode-refused}
+use Rattle.codec.proofs.CallLaws.{early-passes, early-ready, early-shift, early-lengths, early-refused, dimensions, ready-usable, ready-lengths, told-of, decode-done, decode-refused}
 use Rattle.codec.proofs.decode.Statement.{statement}
 use Rattle.codec.proofs.decode.Tie as tie
 
@@ -23,6 +23,9 @@ module _ (c : tie.After-early-refusal) where
 
   abbrev bs : List ℕ
   bs = start .args .basis .now
+
+  abbrev σ : ℕ
+  σ = start .args .shift
 
   abbrev coefficients : List ℕ
   coefficients = start .args .coefficients .now
@@ -38,11 +41,14 @@ module _ (c : tie.Then1) where
   abbrev at : tie.After-early-refusal
   at = c .before
 
-  passing : Passes (earlyChecks (m at) (bs at) (length (coefficients at)) (length (word at)) (length (scratch at)))
-  passing = early-passes (m at) (bs at) (length (coefficients at)) (length (word at)) (length (scratch at)) (at .before .before .check .result) (at .before .before .check .ensures) (at .early-refusal .result) (at .early-refusal .ensures) (c .if1 .taken)
+  passing : Passes (earlyChecks (m at) (bs at) (σ at) (length (coefficients at)) (length (word at)) (length (scratch at)))
+  passing = early-passes (m at) (bs at) (σ at) (length (coefficients at)) (length (word at)) (length (scratch at)) (at .before .before .check .result) (at .before .before .check .ensures) (at .early-refusal .result) (at .early-refusal .ensures) (c .if1 .taken)
 
   set : Ready (m at) (bs at) (at .before .before .check .result .setting)
-  set = early-ready (m at) (bs at) (length (coefficients at)) (length (word at)) (length (scratch at)) (at .before .before .check .result) (at .before .before .check .ensures) (at .early-refusal .result) (at .early-refusal .ensures) (c .if1 .taken)
+  set = early-ready (m at) (bs at) (σ at) (length (coefficients at)) (length (word at)) (length (scratch at)) (at .before .before .check .result) (at .before .before .check .ensures) (at .early-refusal .result) (at .early-refusal .ensures) (c .if1 .taken)
+
+  shift-is : at .before .before .check .result .setting .shift ≡ σ at
+  shift-is = early-shift (m at) (bs at) (σ at) (length (coefficients at)) (length (word at)) (length (scratch at)) (at .before .before .check .result) (at .before .before .check .ensures) (at .early-refusal .result) (at .early-refusal .ensures) (c .if1 .taken)
 
 -- ---- once the scratch is cleared
 module _ (c : tie.After-finish) where
@@ -61,7 +67,7 @@ check-requires c κs = search needs
 early-refusal-requires : tie.Need-early-refusal-requires
 early-refusal-requires c κs =
     let start = c .before .before .before .before .before .before in
-    dimensions (start .args .modulus) (start .args .basis .now) 0 0 0 (c .before .check .result) (c .before .check .ensures)
+    dimensions (start .args .modulus) (start .args .basis .now) (start .args .shift) 0 0 0 (c .before .check .result) (c .before .check .ensures)
 
 decode-with-requires : tie.Need-decode-with-requires
 decode-with-requires c κs =
@@ -69,7 +75,7 @@ decode-with-requires c κs =
     let here = at then in (
       ready-usable (set then),
       ready-lengths (coefficients here) (word here) (scratch here) (set then)
-          (early-lengths (m here) (bs here) (length (coefficients here)) (length (word here)) (length (scratch here)) (here .before .before .check .result) (here .before .before .check .ensures) (here .early-refusal .result) (here .early-refusal .ensures) (then .if1 .taken)),
+          (early-lengths (m here) (bs here) (σ here) (length (coefficients here)) (length (word here)) (length (scratch here)) (here .before .before .check .result) (here .before .before .check .ensures) (here .early-refusal .result) (here .early-refusal .ensures) (then .if1 .taken)),
     )
 
 finish-requires : tie.Need-finish-requires
@@ -89,20 +95,20 @@ returns c =
     let o = made here in
     let new : List ℕ = o .decode-with .last .1 .1 .0 in
     let left : List ℕ = here .finish .last .1 .0 in
-    subst (Decoded (m a) (bs a) (word a) (coefficients a) new (scratch a) left) (sym (here .finish .ensures .0))
+    subst (Decoded (m a) (bs a) (σ a) (word a) (coefficients a) new (scratch a) left) (sym (here .finish .ensures .0))
     (told-of (o .decode-with .result)
-    (decode-done (earlyChecks (m a) (bs a) (length (coefficients a)) (length (word a)) (length (scratch a)))
-    (early-numbered (m a) (bs a) (length (coefficients a)) (length (word a)) (length (scratch a))) (passing then1) (set then1)
+    (decode-done (earlyChecks (m a) (bs a) (σ a) (length (coefficients a)) (length (word a)) (length (scratch a)))
+    (early-numbered (m a) (bs a) (σ a) (length (coefficients a)) (length (word a)) (length (scratch a))) (passing then1) (set then1) (σ a) (shift-is then1)
     (coefficients a) new (scratch a) left (cleared here) (word a) (o .decode-with .result) (o .decode-with .ensures))
-    (decode-refused (earlyChecks (m a) (bs a) (length (coefficients a)) (length (word a)) (length (scratch a)))
-    (early-numbered (m a) (bs a) (length (coefficients a)) (length (word a)) (length (scratch a))) (passing then1) (set then1)
+    (decode-refused (earlyChecks (m a) (bs a) (σ a) (length (coefficients a)) (length (word a)) (length (scratch a)))
+    (early-numbered (m a) (bs a) (σ a) (length (coefficients a)) (length (word a)) (length (scratch a))) (passing then1) (set then1) (σ a) (shift-is then1)
     (coefficients a) new (scratch a) left (cleared here) (word a) (o .decode-with .result) (o .decode-with .ensures)))
 
 returns-2 : tie.Need-returns-2
 returns-2 c =
     let a = c .before in
-    early-refused (m a) (bs a) (length (coefficients a)) (length (word a)) (length (scratch a)) (a .before .before .check .result) (a .before .before .check .ensures)
-    (wordChecks (m a) (bs a) (word a)) (a .early-refusal .result) (coefficients a) (scratch a) (a .early-refusal .ensures) (c .if1 .left)
+    early-refused (m a) (bs a) (σ a) (length (coefficients a)) (length (word a)) (length (scratch a)) (a .before .before .check .result) (a .before .before .check .ensures)
+    (wordChecks (m a) (bs a) (σ a) (word a)) (a .early-refusal .result) (coefficients a) (scratch a) (a .early-refusal .ensures) (c .if1 .left)
 
 pub decode-spec : {M : Type 1} → statement M
 decode-spec =

@@ -7,7 +7,7 @@ use borrow.Author.Needs.{needs}
 use Rattle.lists.specs.Answers.{Checks, Passes}
 use Rattle.lists.specs.Calls.{zeros}
 use Rattle.lists.specs.Lengths.{lengths-passed}
-use Rattle.space.specs.Early.{dimensions, early-passes, early-ready, early-rest, early-refused}
+use Rattle.space.specs.Early.{dimensions, early-passes, early-ready, early-shift, early-rest, early-refused}
 use Rattle.space.specs.Ready.{Ready}
 use Rattle.correction.specs.Calls.{lengthChecks, nearChecks, CorrectedWord}
 use Rattle.correction.specs.Checks.{earlyChecks}
@@ -27,6 +27,9 @@ module _ (c : tie.After-early-refusal) where
   abbrev bs : List ℕ
   bs = start .args .basis .now
 
+  abbrev σ : ℕ
+  σ = start .args .shift
+
   abbrev word : List ℕ
   word = start .args .word .now
 
@@ -45,14 +48,17 @@ module _ (c : tie.Then1) where
   abbrev at : tie.After-early-refusal
   at = c .before
 
-  passing : Passes (earlyChecks (m at) (bs at) (length (word at)) (length (output at)) (length (scratch at)))
-  passing = early-passes (m at) (bs at) (lengths at) (at .before .before .check .result) (at .before .before .check .ensures) (at .early-refusal .result) (at .early-refusal .ensures) (c .if1 .taken)
+  passing : Passes (earlyChecks (m at) (bs at) (σ at) (length (word at)) (length (output at)) (length (scratch at)))
+  passing = early-passes (m at) (bs at) (σ at) (lengths at) (at .before .before .check .result) (at .before .before .check .ensures) (at .early-refusal .result) (at .early-refusal .ensures) (c .if1 .taken)
 
   set : Ready (m at) (bs at) (at .before .before .check .result .setting)
-  set = early-ready (m at) (bs at) (lengths at) (at .before .before .check .result) (at .before .before .check .ensures) (at .early-refusal .result) (at .early-refusal .ensures) (c .if1 .taken)
+  set = early-ready (m at) (bs at) (σ at) (lengths at) (at .before .before .check .result) (at .before .before .check .ensures) (at .early-refusal .result) (at .early-refusal .ensures) (c .if1 .taken)
+
+  own-shift : at .before .before .check .result .setting .shift ≡ σ at
+  own-shift = early-shift (m at) (bs at) (σ at) (lengths at) (at .before .before .check .result) (at .before .before .check .ensures) (at .early-refusal .result) (at .early-refusal .ensures) (c .if1 .taken)
 
   right-lengths : Passes (lengths at)
-  right-lengths = early-rest (m at) (bs at) (lengths at) (at .before .before .check .result) (at .before .before .check .ensures) (at .early-refusal .result) (at .early-refusal .ensures) (c .if1 .taken)
+  right-lengths = early-rest (m at) (bs at) (σ at) (lengths at) (at .before .before .check .result) (at .before .before .check .ensures) (at .early-refusal .result) (at .early-refusal .ensures) (c .if1 .taken)
 
 -- ---- once the scratch is cleared
 module _ (c : tie.After-finish) where
@@ -71,7 +77,7 @@ check-requires c κs = search needs
 early-refusal-requires : tie.Need-early-refusal-requires
 early-refusal-requires c κs =
     let start = c .before .before .before .before .before .before in
-    dimensions (start .args .modulus) (start .args .basis .now) (lengthChecks 0 0 0 0) (c .before .check .result) (c .before .check .ensures)
+    dimensions (start .args .modulus) (start .args .basis .now) (start .args .shift) (lengthChecks 0 0 0 0) (c .before .check .result) (c .before .check .ensures)
 
 correct-with-requires : tie.Need-correct-with-requires
 correct-with-requires c κs =
@@ -98,15 +104,15 @@ returns c =
     let o = made here in
     let new : List ℕ = o .correct-with .last .1 .1 .0 in
     let left : List ℕ = here .finish .last .1 .0 in
-    subst (CorrectedWord (m a) (bs a) (word a) (output a) new (scratch a) left) (sym (here .finish .ensures .0))
-    (told-of (m a) (bs a) (word a) (output a) new (scratch a) left (a .before .before .check .result .setting) (o .correct-with .result .refusal) (o .correct-with .result .count)
-    (passing then1) (set then1) (cleared here) (o .correct-with .ensures))
+    subst (CorrectedWord (m a) (bs a) (σ a) (word a) (output a) new (scratch a) left) (sym (here .finish .ensures .0))
+    (told-of (m a) (bs a) (σ a) (word a) (output a) new (scratch a) left (a .before .before .check .result .setting) (o .correct-with .result .refusal) (o .correct-with .result .count)
+    (passing then1) (set then1) (own-shift then1) (cleared here) (o .correct-with .ensures))
 
 returns-2 : tie.Need-returns-2
 returns-2 c =
     let a = c .before in
-    early-refused (m a) (bs a) (lengths a) (a .before .before .check .result) (a .before .before .check .ensures) (early-within (m a) (bs a) (length (word a)) (length (output a)) (length (scratch a)))
-    (nearChecks (m a) (bs a) (word a)) (a .early-refusal .result) (output a) (scratch a) (a .early-refusal .ensures) (c .if1 .left)
+    early-refused (m a) (bs a) (σ a) (lengths a) (a .before .before .check .result) (a .before .before .check .ensures) (early-within (m a) (bs a) (σ a) (length (word a)) (length (output a)) (length (scratch a)))
+    (nearChecks (m a) (bs a) (σ a) (word a)) (a .early-refusal .result) (output a) (scratch a) (a .early-refusal .ensures) (c .if1 .left)
 
 pub correct-spec : {M : Type 1} → statement M
 correct-spec =

@@ -12,7 +12,7 @@ cast-result c = search needs
 
 returns : tie.Need-returns
 returns c =
-    let a = c .before .before .before .args in settled-answer (a .modulus) (a .basis .now) (c .before .check .result) (c .before .check .ensures)
+    let a = c .before .before .before .args in settled-answer (a .modulus) (a .basis .now) (a .shift) (c .before .check .result) (c .before .check .ensures)
 
 pub proximity-setting-spec : {M : Type 1} → statement M
 proximity-setting-spec = tie.close (tie.spec check-requires cast-result returns)

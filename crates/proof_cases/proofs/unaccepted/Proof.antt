@@ -6,10 +6,10 @@ use Rattle.proof_cases.proofs.unaccepted.Statement.{statement}
 use Rattle.proof_cases.proofs.unaccepted.Tie as tie
 
 abbrev Inv-loop : tie.InvT-loop
-Inv-loop modulus basis word proof coins n₀ coin₀ n coin = (coin ≤ coins) × (n ≤ coin)
+Inv-loop modulus basis shift word proof coins n₀ coin₀ n coin = (coin ≤ coins) × (n ≤ coin)
 
 abbrev μ-loop : tie.MeasureT-loop
-μ-loop modulus basis word proof coins n₀ coin₀ n coin = coins - coin
+μ-loop modulus basis shift word proof coins n₀ coin₀ n coin = coins - coin
 
 loop-holds : tie.Need-loop-holds Inv-loop μ-loop
 loop-holds c = omega arith

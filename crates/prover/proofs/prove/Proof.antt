@@ -11,7 +11,7 @@ use Rattle.space.specs.Setting.{settingChecks}
 use Rattle.proximity.specs.Dim.{S}
 use Rattle.codec.specs.Calls.{wordChecks}
 use Rattle.lists.specs.Lengths.{lengths-passed}
-use Rattle.space.specs.Early.{dimensions, early-passes, early-ready, early-rest, early-refused}
+use Rattle.space.specs.Early.{dimensions, early-passes, early-ready, early-shift, early-rest, early-refused}
 use Rattle.codec.proofs.CallLaws.{told-of}
 use Rattle.prover.specs.Calls.{lengthChecks, Proven}
 use Rattle.prover.proofs.CallLaws.{early-within, early-numbered, in-setting, prove-done, prove-refused}
@@ -30,6 +30,9 @@ module _ (c : tie.After-early-refusal) where
   abbrev bs : List ℕ
   bs = start .args .basis .now
 
+  abbrev σ : ℕ
+  σ = start .args .shift
+
   abbrev word : List ℕ
   word = start .args .word .now
 
@@ -43,22 +46,25 @@ module _ (c : tie.After-early-refusal) where
   abbrev lengths : Checks
   lengths = lengthChecks (length bs) (length word) (length proof) (length scratch)
 
-  numbered : Numbered (settingChecks m bs ++ lengths)
-  numbered = early-numbered m bs (length word) (length proof) (length scratch)
+  numbered : Numbered (settingChecks m bs σ ++ lengths)
+  numbered = early-numbered m bs σ (length word) (length proof) (length scratch)
 
 -- ---- past check 7
 module _ (c : tie.Then1) where
   abbrev at : tie.After-early-refusal
   at = c .before
 
-  passing : Passes (settingChecks (m at) (bs at) ++ lengths at)
-  passing = early-passes (m at) (bs at) (lengths at) (at .before .before .check .result) (at .before .before .check .ensures) (at .early-refusal .result) (at .early-refusal .ensures) (c .if1 .taken)
+  passing : Passes (settingChecks (m at) (bs at) (σ at) ++ lengths at)
+  passing = early-passes (m at) (bs at) (σ at) (lengths at) (at .before .before .check .result) (at .before .before .check .ensures) (at .early-refusal .result) (at .early-refusal .ensures) (c .if1 .taken)
 
   set : Ready (m at) (bs at) (at .before .before .check .result .setting)
-  set = early-ready (m at) (bs at) (lengths at) (at .before .before .check .result) (at .before .before .check .ensures) (at .early-refusal .result) (at .early-refusal .ensures) (c .if1 .taken)
+  set = early-ready (m at) (bs at) (σ at) (lengths at) (at .before .before .check .result) (at .before .before .check .ensures) (at .early-refusal .result) (at .early-refusal .ensures) (c .if1 .taken)
+
+  shift-is : at .before .before .check .result .setting .shift ≡ σ at
+  shift-is = early-shift (m at) (bs at) (σ at) (lengths at) (at .before .before .check .result) (at .before .before .check .ensures) (at .early-refusal .result) (at .early-refusal .ensures) (c .if1 .taken)
 
   right-lengths : Passes (lengths at)
-  right-lengths = early-rest (m at) (bs at) (lengths at) (at .before .before .check .result) (at .before .before .check .ensures) (at .early-refusal .result) (at .early-refusal .ensures) (c .if1 .taken)
+  right-lengths = early-rest (m at) (bs at) (σ at) (lengths at) (at .before .before .check .result) (at .before .before .check .ensures) (at .early-refusal .result) (at .early-refusal .ensures) (c .if1 .taken)
 
 -- ---- once the scratch is cleared
 module _ (c : tie.After-finish) where
@@ -77,7 +83,7 @@ check-requires c κs = search needs
 early-refusal-requires : tie.Need-early-refusal-requires
 early-refusal-requires c κs =
     let start = c .before .before .before .before .before .before in
-    dimensions (start .args .modulus) (start .args .basis .now) (lengthChecks 0 0 0 0) (c .before .check .result) (c .before .check .ensures)
+    dimensions (start .args .modulus) (start .args .basis .now) (start .args .shift) (lengthChecks 0 0 0 0) (c .before .check .result) (c .before .check .ensures)
 
 prove-with-requires : tie.Need-prove-with-requires
 prove-with-requires c κs =
@@ -102,16 +108,16 @@ returns c =
     let o = made here in
     let new : List ℕ = o .prove-with .last .1 .1 .0 in
     let left : List ℕ = here .finish .last .1 .0 in
-    subst (Proven (m a) (bs a) (word a) (proof a) new (scratch a) left) (sym (here .finish .ensures .0))
+    subst (Proven (m a) (bs a) (σ a) (word a) (proof a) new (scratch a) left) (sym (here .finish .ensures .0))
     (told-of (o .prove-with .result)
-    (prove-done (settingChecks (m a) (bs a) ++ lengths a) (numbered a) (passing then1) (set then1) (proof a) new (scratch a) left (cleared here) (word a) (o .prove-with .result) (o .prove-with .ensures))
-    (prove-refused (settingChecks (m a) (bs a) ++ lengths a) (numbered a) (passing then1) (set then1) (proof a) new (scratch a) left (cleared here) (word a) (o .prove-with .result) (o .prove-with .ensures)))
+    (prove-done (settingChecks (m a) (bs a) (σ a) ++ lengths a) (numbered a) (passing then1) (set then1) (σ a) (shift-is then1) (proof a) new (scratch a) left (cleared here) (word a) (o .prove-with .result) (o .prove-with .ensures))
+    (prove-refused (settingChecks (m a) (bs a) (σ a) ++ lengths a) (numbered a) (passing then1) (set then1) (σ a) (shift-is then1) (proof a) new (scratch a) left (cleared here) (word a) (o .prove-with .result) (o .prove-with .ensures)))
 
 returns-2 : tie.Need-returns-2
 returns-2 c =
     let a = c .before in
-    early-refused (m a) (bs a) (lengths a) (a .before .before .check .result) (a .before .before .check .ensures) (early-within (m a) (bs a) (length (word a)) (length (proof a)) (length (scratch a)))
-    (wordChecks (m a) (bs a) (word a)) (a .early-refusal .result) (proof a) (scratch a) (a .early-refusal .ensures) (c .if1 .left)
+    early-refused (m a) (bs a) (σ a) (lengths a) (a .before .before .check .result) (a .before .before .check .ensures) (early-within (m a) (bs a) (σ a) (length (word a)) (length (proof a)) (length (scratch a)))
+    (wordChecks (m a) (bs a) (σ a) (word a)) (a .early-refusal .result) (proof a) (scratch a) (a .early-refusal .ensures) (c .if1 .left)
 
 pub prove-spec : {M : Type 1} → statement M
 prove-spec =

@@ -24,7 +24,7 @@ returns c = search needs
 -- the setting passed
 module _ (c : tie.After-steps) where
   passed : Ready (c .before .before .before .before .before .before .before .args .modulus) (c .before .before .before .before .before .before .before .args .basis .now) (c .before .before .before .check .result .setting)
-  passed = ready _ _ _ (c .before .before .before .check .ensures) (omega (arith, c .before .before .if1 .left))
+  passed = ready _ _ _ _ (c .before .before .before .check .ensures) (omega (arith, c .before .before .if1 .left))
 
 is-symbol-requires : tie.Need-is-symbol-requires
 is-symbol-requires c κs = passed c .sized

@@ -5,6 +5,7 @@ use native.Mathlib.Omega.{arith}
 use Rattle.lists.specs.Decides.{decides-true, decides-false}
 use Rattle.space.specs.Sound.{outside}
 use borrow.Author.Needs.{needs}
+use borrow.Author.Tests.{not-true, not-false}
 use Rattle.space.proofs.basis_refusal.Statement.{statement}
 use Rattle.space.proofs.basis_refusal.Tie as tie
 
@@ -19,12 +20,31 @@ all-symbols-requires c κs = search needs
 
 returns-3 : tie.Need-returns-3
 returns-3 c =
-    inr (outside (omega arith) (omega arith), inr ((λ no. no (decides-true _ (c .before .all-symbols .ensures) (c .if3 .taken))), refl))
+    inr (outside (omega arith) (omega arith), inl (decides-false _ (c .before .all-symbols .ensures) (not-true _ (c .if3 .taken)), refl))
+
+is-symbol-requires : tie.Need-is-symbol-requires
+is-symbol-requires c κs = search needs
 
 returns-4 : tie.Need-returns-4
 returns-4 c =
-    inr (outside (omega arith) (omega arith), inl (decides-false _ (c .before .all-symbols .ensures) (c .if3 .left), refl))
+    inr (
+      outside (omega arith) (omega arith),
+      inr (
+        (λ no. no (decides-true _ (c .before .before .before .all-symbols .ensures) (not-false _ (c .before .before .if3 .left)))),
+        inr ((λ no. no (decides-true _ (c .before .is-symbol .ensures) (c .if4 .taken))), refl),
+      ),
+    )
+
+returns-5 : tie.Need-returns-5
+returns-5 c =
+    inr (
+      outside (omega arith) (omega arith),
+      inr (
+        (λ no. no (decides-true _ (c .before .before .before .all-symbols .ensures) (not-false _ (c .before .before .if3 .left)))),
+        inl (decides-false _ (c .before .is-symbol .ensures) (c .if4 .left), refl),
+      ),
+    )
 
 pub basis-refusal-spec : {M : Type 1} → statement M
 basis-refusal-spec =
-    tie.close (tie.spec returns returns-2 all-symbols-requires returns-3 returns-4)
+    tie.close (tie.spec returns returns-2 all-symbols-requires returns-3 is-symbol-requires returns-4 returns-5)

@@ -23,6 +23,9 @@ module _ (c : tie.Then1) where
   abbrev bs : List ℕ
   bs = c .before .before .before .args .basis .now
 
+  abbrev σ : ℕ
+  σ = c .before .before .before .args .shift
+
   passes : Passes (modulusChecks m)
   passes = subst (Answers (modulusChecks m)) (c .if1 .taken) (c .before .modulus-refusal .ensures)
 
@@ -40,8 +43,8 @@ check-basis-requires c κs =
 returns : tie.Need-returns
 returns c =
     let h = c .before .before in
-    settled-after (modulusChecks (m h)) (spaceChecks (m h) (bs h)) (m h) (bs h) (c .check-basis .result) (modulus-numbered (m h)) (passes h)
-    (subst (λ (q : ℕ). SettledBy (spaceChecks q (bs h)) q (bs h) (c .check-basis .result)) (c .before .field-of .ensures .modulus) (c .check-basis .ensures))
+    settled-after (modulusChecks (m h)) (spaceChecks (m h) (bs h) (σ h)) (m h) (bs h) (σ h) (c .check-basis .result) (modulus-numbered (m h)) (passes h)
+    (subst (λ (q : ℕ). SettledBy (spaceChecks q (bs h) (σ h)) q (bs h) (σ h) (c .check-basis .result)) (c .before .field-of .ensures .modulus) (c .check-basis .ensures))
 
 refused-requires : tie.Need-refused-requires
 refused-requires c κs = search needs
@@ -50,7 +53,7 @@ returns-2 : tie.Need-returns-2
 returns-2 c =
     let n = c .before .before .modulus-refusal in
     let a = c .before .before .before .before .args in
-    settled-first (modulusChecks (a .modulus)) (spaceChecks (a .modulus) (a .basis .now)) (a .modulus) (a .basis .now) (c .refused .result) (n .result) (c .before .if1 .left) (n .ensures) (c .refused .ensures .0)
+    settled-first (modulusChecks (a .modulus)) (spaceChecks (a .modulus) (a .basis .now) (a .shift)) (a .modulus) (a .basis .now) (a .shift) (c .refused .result) (n .result) (c .before .if1 .left) (n .ensures) (c .refused .ensures .0)
     (c .refused .ensures .1)
 
 pub check-spec : {M : Type 1} → statement M

@@ -24,16 +24,19 @@ module _ (c : tie.After-basis-refusal) where
   abbrev bs : List ℕ
   bs = start .args .basis .now
 
+  abbrev σ : ℕ
+  σ = start .args .shift
+
 -- they pass
 module _ (c : tie.Then1) where
   abbrev tested : tie.After-basis-refusal
   tested = c .before
 
-  passes : Passes (basisChecks (m tested) (bs tested))
-  passes = subst (Answers (basisChecks (m tested) (bs tested))) (c .if1 .taken) (tested .basis-refusal .ensures)
+  passes : Passes (basisChecks (m tested) (bs tested) (σ tested))
+  passes = subst (Answers (basisChecks (m tested) (bs tested) (σ tested))) (c .if1 .taken) (tested .basis-refusal .ensures)
 
-  good : Bounded (m tested) (bs tested)
-  good = bounded (m tested) (bs tested) passes
+  good : Bounded (m tested) (bs tested) (σ tested)
+  good = bounded (m tested) (bs tested) (σ tested) passes
 
 settle-requires : tie.Need-settle-requires
 settle-requires c κs = let p = start (c .before) .pre in (p .0, p .1, good c .high, good c .elements)
@@ -41,7 +44,7 @@ settle-requires c κs = let p = start (c .before) .pre in (p .0, p .1, good c .h
 returns : tie.Need-returns
 returns c =
     let t = c .before .before in
-    settled-after (basisChecks (m t) (bs t)) (spanChecks (m t) (bs t)) (m t) (bs t) (c .settle .result) (basis-numbered (m t) (bs t)) (passes (c .before)) (c .settle .ensures)
+    settled-after (basisChecks (m t) (bs t) (σ t)) (spanChecks (m t) (bs t)) (m t) (bs t) (σ t) (c .settle .result) (basis-numbered (m t) (bs t) (σ t)) (passes (c .before)) (c .settle .ensures)
 
 refused-requires : tie.Need-refused-requires
 refused-requires c κs = search needs
@@ -49,7 +52,7 @@ refused-requires c κs = search needs
 returns-2 : tie.Need-returns-2
 returns-2 c =
     let t = c .before .before in
-    settled-first (basisChecks (m t) (bs t)) (spanChecks (m t) (bs t)) (m t) (bs t) (c .refused .result) (t .basis-refusal .result) (c .before .if1 .left) (t .basis-refusal .ensures) (c .refused .ensures .0)
+    settled-first (basisChecks (m t) (bs t) (σ t)) (spanChecks (m t) (bs t)) (m t) (bs t) (σ t) (c .refused .result) (t .basis-refusal .result) (c .before .if1 .left) (t .basis-refusal .ensures) (c .refused .ensures .0)
     (c .refused .ensures .1)
 
 pub check-basis-spec : {M : Type 1} → statement M

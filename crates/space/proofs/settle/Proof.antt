@@ -17,21 +17,21 @@ use Rattle.space.proofs.settle.Statement.{statement}
 use Rattle.space.proofs.settle.Tie as tie
 
 -- the two outcomes of the tables
-made-all : (f : Field) (bs : List ℕ) (t : Tables) (p : List ℕ) → Sized f → Tabled (f .modulus) bs t → t .independent ≡ true → p ≡ paddedOf bs
-    → Made (f .modulus) bs (record { refusal = 0; setting = record { field = f; space = record { k = length bs; images = t .images }; basis = p; steps = t .steps; inverses = t .inverses } })
+made-all : (f : Field) (bs : List ℕ) (σ : ℕ) (t : Tables) (p : List ℕ) → Sized f → Tabled (f .modulus) bs t → t .independent ≡ true → p ≡ paddedOf bs
+    → Made (f .modulus) bs σ (record { refusal = 0; setting = record { field = f; space = record { k = length bs; images = t .images }; basis = p; shift = σ; steps = t .steps; inverses = t .inverses } })
 unfolding settingOf tablesOf noTables
-made-all f bs t p s (inl (ind, e)) i ep =
+made-all f bs σ t p s (inl (ind, e)) i ep =
     inl (
       inr ((λ dep. dep ind), refl),
       refl,
-      λ x. record { field = record { modulus = f .modulus; degree = s .right x }; space = record { k = length bs; images = e x .images }; basis = ep x; steps = e x .steps; inverses = e x .inverses },
+      λ x. record { field = record { modulus = f .modulus; degree = s .right x }; space = record { k = length bs; images = e x .images }; basis = ep x; shift = σ; steps = e x .steps; inverses = e x .inverses },
     )
-made-all f bs t p s (inr (dep, e)) i ep = absurd (true-not-false i (ap (λ (u : Tables). u .independent) e))
+made-all f bs σ t p s (inr (dep, e)) i ep = absurd (true-not-false i (ap (λ (u : Tables). u .independent) e))
 
-made-none : (m : ℕ) (bs : List ℕ) (t : Tables) (c : Checked) → Tabled m bs t → t .independent ≡ false → c .refusal ≡ 5 → c .setting ≡ noSetting → Made m bs c
+made-none : (m : ℕ) (bs : List ℕ) (σ : ℕ) (t : Tables) (c : Checked) → Tabled m bs t → t .independent ≡ false → c .refusal ≡ 5 → c .setting ≡ noSetting → Made m bs σ c
 unfolding tablesOf
-made-none m bs t c (inl (ind, e)) i er es = absurd (true-not-false (ap (λ (u : Tables). u .independent) e) i)
-made-none m bs t c (inr (dep, e)) i er es = inr ((omega arith, inl (dep, er)), es)
+made-none m bs σ t c (inl (ind, e)) i er es = absurd (true-not-false (ap (λ (u : Tables). u .independent) e) i)
+made-none m bs σ t c (inr (dep, e)) i er es = inr ((omega arith, inl (dep, er)), es)
 
 tabulate-requires : tie.Need-tabulate-requires
 tabulate-requires c κs = search needs
@@ -43,7 +43,7 @@ returns : tie.Need-returns
 returns c =
     let start = c .before .before .before .before .before .before .before in
     let t = c .before .before .before .before .before .tabulate in
-    made-all (start .args .f) (start .args .basis .now) (t .result) (c .padded .result) (start .pre .0) (t .ensures) (c .before .if1 .taken) (c .padded .ensures)
+    made-all (start .args .f) (start .args .basis .now) (start .args .shift) (t .result) (c .padded .result) (start .pre .0) (t .ensures) (c .before .if1 .taken) (c .padded .ensures)
 
 refused-requires : tie.Need-refused-requires
 refused-requires c κs = search needs
@@ -52,7 +52,7 @@ returns-2 : tie.Need-returns-2
 returns-2 c =
     let start = c .before .before .before .before .before .before .before in
     let t = c .before .before .before .before .before .tabulate in
-    made-none (start .args .f .modulus) (start .args .basis .now) (t .result) (c .refused .result) (t .ensures) (c .before .if1 .left) (c .refused .ensures .0) (c .refused .ensures .1)
+    made-none (start .args .f .modulus) (start .args .basis .now) (start .args .shift) (t .result) (c .refused .result) (t .ensures) (c .before .if1 .left) (c .refused .ensures .0) (c .refused .ensures .1)
 
 pub settle-spec : {M : Type 1} → statement M
 settle-spec =

@@ -22,7 +22,7 @@ returns : tie.Need-returns
 returns c =
     let a = c .before .before .before .before .before .args in
     let k = c .before .check in
-    told-setting (a .modulus) (a .basis .now) (a .word .now) (a .proof .now) (a .coin) (k .result .refusal) (omega (arith, c .if1 .taken)) (settled-answer (a .modulus) (a .basis .now) (k .result) (k .ensures))
+    told-setting (a .modulus) (a .basis .now) (a .shift) (a .word .now) (a .proof .now) (a .coin) (k .result .refusal) (omega (arith, c .if1 .taken)) (settled-answer (a .modulus) (a .basis .now) (a .shift) (k .result) (k .ensures))
 
 -- the setting passed
 module _ (c : tie.Else1) where
@@ -32,14 +32,17 @@ module _ (c : tie.Else1) where
   abbrev bs : List ℕ
   bs = start .args .basis .now
 
+  abbrev σ : ℕ
+  σ = start .args .shift
+
   none : c .before .check .result .refusal ≡ 0
   none = omega (arith, c .if1 .left)
 
   passed : Ready (start .args .modulus) bs (c .before .check .result .setting)
-  passed = ready (start .args .modulus) bs (c .before .check .result) (c .before .check .ensures) none
+  passed = ready (start .args .modulus) bs σ (c .before .check .result) (c .before .check .ensures) none
 
-  passes : Passes (settingChecks (start .args .modulus) bs)
-  passes = subst (Answers (settingChecks (start .args .modulus) bs)) none (settled-answer (start .args .modulus) bs (c .before .check .result) (c .before .check .ensures))
+  passes : Passes (settingChecks (start .args .modulus) bs σ)
+  passes = subst (Answers (settingChecks (start .args .modulus) bs σ)) none (settled-answer (start .args .modulus) bs σ (c .before .check .result) (c .before .check .ensures))
 
 delivery-refusal-requires : tie.Need-delivery-refusal-requires
 delivery-refusal-requires c κs = passed c .sound .high
@@ -48,7 +51,7 @@ returns-2 : tie.Need-returns-2
 returns-2 c =
     let e = c .before .before in
     let a = start e .args in
-    told-delivery (a .modulus) (a .basis .now) (a .word .now) (a .proof .now) (a .coin) (passes e) (c .before .delivery-refusal .result) (omega (arith, c .if2 .taken)) (c .before .delivery-refusal .ensures)
+    told-delivery (a .modulus) (a .basis .now) (a .shift) (a .word .now) (a .proof .now) (a .coin) (passes e) (c .before .delivery-refusal .result) (omega (arith, c .if2 .taken)) (c .before .delivery-refusal .ensures)
 
 -- the lengths and the coin are right
 module _ (c : tie.Else2) where
@@ -73,7 +76,7 @@ returns-3 c =
     let s = setting e in
     let args = start s .args in
     let space = ready-space (passed s) in
-    told-coin (args .modulus) (bs s) (args .word .now) (args .proof .now) (args .coin) (passes s) (fits e) (c .check-word .result)
+    told-coin (args .modulus) (bs s) (σ s) (args .word .now) (args .proof .now) (args .coin) (passes s) (fits e) (c .check-word .result)
     (subst (λ (q : ℕ). OnCoin (symbols q) (length (bs s)) (bs s) (args .word .now) (args .proof .now) (args .coin) (c .check-word .result)) (passed s .modulus)
     (c .check-word .ensures (bs s) (space .right) (space .table)))
 

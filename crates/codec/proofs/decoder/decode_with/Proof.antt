@@ -10,7 +10,9 @@ use borrow.Author.Needs.{needs}
 use Rattle.lists.specs.All.{Below}
 use Rattle.lists.specs.Decides.{decides-true, decides-false}
 use Rattle.field.specs.Binary.{degree}
-use Rattle.codec.proofs.WordLaws.{front-below, tested-zero, tested-none}
+use Rattle.poly.specs.Shift.{codeword-shift}
+use Rattle.space.specs.Usable.{ready-field}
+use Rattle.codec.proofs.WordLaws.{front-below, tested-zero, tested-none, coefficients-at}
 use Rattle.codec.proofs.decoder.decode_with.Statement.{statement}
 use Rattle.codec.proofs.decoder.decode_with.Tie as tie
 
@@ -89,6 +91,21 @@ read-coefficients-requires c κs =
       front-below (begin .pre .0) (word (at here)) (work here) (rest here) (length-work here ∙ n-is (at here)) (here .is-codeword .ensures .below),
     )
 
+sub-shift-powers : tie.Need-sub-shift-powers
+sub-shift-powers c =
+    let then2 = c .before .before .before .before .before .before .before .before in
+    let here = then2 .before .before .before in
+    omega (arith, start (at here) .pre .0 .low)
+
+shift-powers-requires : tie.Need-shift-powers-requires
+shift-powers-requires c κs =
+    let done = c .before .before .before .before .before .before in
+    let then2 = done .before .before .before in
+    let here = then2 .before .before .before in
+    let begin = start (at here) in
+    let u = begin .pre .0 in
+    (u .sized, u .irreducible, u .shift, omega (arith, u .high), done .read-coefficients .ensures .0, done .read-coefficients .kept .1 .0 ∙ begin .pre .1 .eighth)
+
 same-length : tie.Need-same-length
 same-length c = search needs
 
@@ -97,14 +114,17 @@ same-length-2 c = search needs
 
 returns : tie.Need-returns
 returns c =
-    let then2 = c .before .before .before .before .before .before .before in
+    let done = c .before .before .before .before .before .before .before .before .before in
+    let then2 = done .before .before .before in
     let here = then2 .before .before .before in
     let begin = start (at here) in
     inl (
       refl,
       symbols (then here),
-      λ bs r. c .before .before .before .before .read-coefficients .ensures bs r (word (at here))
-          (tested-zero (begin .pre .0) (word (at here)) (work here) (rest here) (length-work here ∙ n-is (at here)) (here .is-codeword .ensures) r (symbols (then here)) (n-is (at here)) (then2 .if2 .taken)),
+      λ bs r. coefficients-at (ready-field r) (begin .args .s .shift) bs (word (at here)) (done .read-coefficients .last .1 .0) (c .before .before .shift-powers .last .1 .1 .1 .0)
+          (c .before .before .shift-powers .ensures)
+          (done .read-coefficients .ensures .1 bs r (word (at here))
+          (tested-zero (begin .pre .0) (word (at here)) (work here) (rest here) (length-work here ∙ n-is (at here)) (here .is-codeword .ensures) r (symbols (then here)) (n-is (at here)) (then2 .if2 .taken))),
     )
 
 same-length-3 : tie.Need-same-length-3
@@ -117,7 +137,8 @@ returns-2 c =
     inr (inr (
       refl,
       symbols (then here),
-      (λ bs r. tested-none (begin .pre .0) (word (at here)) (work here) (rest here) (length-work here ∙ n-is (at here)) (here .is-codeword .ensures) r (c .if2 .left)),
+      (λ bs r w. tested-none (begin .pre .0) (word (at here)) (work here) (rest here) (length-work here ∙ n-is (at here)) (here .is-codeword .ensures) r (c .if2 .left)
+          (codeword-shift (ready-field r) (begin .args .s .shift) (r .sound .shift) (length bs) bs (word (at here)) .0 w)),
       refl,
     ))
 
@@ -133,6 +154,8 @@ decode-with-spec =
     slice-aggregate-is-codeword
     is-codeword-requires
     read-coefficients-requires
+    sub-shift-powers
+    shift-powers-requires
     same-length
     same-length-2
     returns

@@ -122,13 +122,14 @@ same-length-2 : tie.Need-same-length-2
 same-length-2 c = search needs
 
 returns : tie.Need-returns
-returns c bs r word z =
+returns c =
     let here = c .before .before .before .before .before .before .before .before in
     let begin = start (at here) in
-    let a = begin .args in
     let same = c .before .before .copy .ensures ∙ copy-whole (src here) (d (at here)) (length-src here ∙ sym (length-d (at here) ∙ size-is begin)) in
-    read r word (d (at here)) (scratch begin) _ z (d-is (at here)) (work here) (here .powers-of .ensures) (same ∙ src-is here) (ap length same ∙ length-src here)
-    (subst (Below (2 ^ degree (q (at here)))) (sym same) (src-below here))
+    let below = subst (Below (2 ^ degree (q (at here)))) (sym same) (src-below here) in (
+      below,
+      λ bs r word z. read r word (d (at here)) (scratch begin) _ z (d-is (at here)) (work here) (here .powers-of .ensures) (same ∙ src-is here) (ap length same ∙ length-src here) below,
+    )
 
 pub read-coefficients-spec : {M : Type 1} → statement M
 read-coefficients-spec =

@@ -62,12 +62,12 @@ returns c =
     let e = c .before .before in
     let s = c .before .before .before .before .before in
     let a = start s .args in
-    let new : List ℕ = e .prove .last .1 .1 .1 .0 in
-    let long : length new ≡ n s = e .prove .kept .1 .1 .1 .0 ∙ part s in
+    let new : List ℕ = e .prove .last .1 .1 .1 .1 .0 in
+    let long : length new ≡ n s = e .prove .kept .1 .1 .1 .1 .0 ∙ part s in
     let count = s .before .before .proof-length .ensures in (
       length-back (n s) new (zeros s) long (fits s) ∙ s .before .no-proof .ensures,
       subst (ProofOf (a .modulus) (a .basis .now) (a .word .now)) (sym (front-back (n s) new (zeros s) long count))
-          (proven (a .modulus) (a .basis .now) (start s .pre .0 .sound) (a .word .now) (take (n s) (zeros s)) new (s .no-scratch .result) (e .prove .last .1 .1 .1 .1 .0) (e .prove .result)
+          (proven (a .modulus) (a .basis .now) (start s .pre .0 .sound) (a .word .now) (take (n s) (zeros s)) new (s .no-scratch .result) (e .prove .last .1 .1 .1 .1 .1 .0) (e .prove .result)
           (start s .pre .1) (part s ∙ count) (room s) (e .prove .ensures)),
     )
 

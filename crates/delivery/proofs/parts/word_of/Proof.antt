@@ -58,12 +58,12 @@ returns c =
     let e = c .before .before in
     let s = c .before .before .before .before .before in
     let a = start s .args in
-    let new : List ℕ = e .encode .last .1 .1 .1 .0 in
-    let long : length new ≡ n s = e .encode .kept .1 .1 .1 .0 ∙ part s in
+    let new : List ℕ = e .encode .last .1 .1 .1 .1 .0 in
+    let long : length new ≡ n s = e .encode .kept .1 .1 .1 .1 .0 ∙ part s in
     let power = s .before .before .power .ensures in (
       length-back (n s) new (zeros s) long (fits s) ∙ s .before .no-word .ensures,
       front-back (n s) new (zeros s) long power
-          ∙ encoded (a .modulus) (a .basis .now) (start s .pre .0 .sound) (a .coefficients .now) (take (n s) (zeros s)) new (s .no-scratch .result) (e .encode .last .1 .1 .1 .1 .0) (e .encode .result)
+          ∙ encoded (a .modulus) (a .basis .now) (start s .pre .0 .sound) (a .coefficients .now) (take (n s) (zeros s)) new (s .no-scratch .result) (e .encode .last .1 .1 .1 .1 .1 .0) (e .encode .result)
           (start s .pre .1) (part s ∙ power) (omega (arith, few s, s .no-scratch .ensures)) (e .encode .ensures),
     )
 

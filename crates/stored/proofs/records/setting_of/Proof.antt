@@ -94,7 +94,7 @@ returns-2 c =
     let b = c .before .before in
     let r = c .check-basis .result in
     settled-after-head (f b) (head (past (made b))) r
-    (transport (λ i. SettledBy (spaceChecks (modulus (made b) i) (basis b i)) (modulus (made b) i) (basis b i) r) (c .check-basis .ensures))
+    (transport (λ i. SettledBy (spaceChecks (modulus (made b) i) (basis b i) 0) (modulus (made b) i) (basis b i) 0 r) (c .check-basis .ensures))
 
 pub setting-of-spec : {M : Type 1} → statement M
 setting-of-spec =

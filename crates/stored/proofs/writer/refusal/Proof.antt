@@ -36,8 +36,8 @@ module _ (c : tie.After-check) where
   abbrev out : ℕ
   out = start .args .out
 
-  tested : Answers (settingChecks m bs) (c .check .result .refusal)
-  tested = settled-answer m bs (c .check .result) (c .check .ensures)
+  tested : Answers (settingChecks m bs 0) (c .check .result .refusal)
+  tested = settled-answer m bs 0 (c .check .result) (c .check .ensures)
 
 returns : tie.Need-returns
 returns c =
@@ -49,11 +49,11 @@ module _ (c : tie.Else1) where
   abbrev here : tie.After-check
   here = c .before .before
 
-  passes : Passes (settingChecks (m here) (bs here))
-  passes = subst (Answers (settingChecks (m here) (bs here))) (c .if1 .left) (tested here)
+  passes : Passes (settingChecks (m here) (bs here) 0)
+  passes = subst (Answers (settingChecks (m here) (bs here) 0)) (c .if1 .left) (tested here)
 
   found : Ready (m here) (bs here) (here .check .result .setting)
-  found = ready (m here) (bs here) (here .check .result) (here .check .ensures) (c .if1 .left)
+  found = ready (m here) (bs here) 0 (here .check .result) (here .check .ensures) (c .if1 .left)
 
 length-refusal-requires : tie.Need-length-refusal-requires
 length-refusal-requires c κs = found c .sound .high
