@@ -33,12 +33,12 @@ fn correction(f: &Field, basis: &[u16], w: &[u16], near: Option<(Vec<u16>, usize
     let (mut out, mut s) = (vec![0; n], vec![0; 16 * n]);
     let answer = near.as_ref().map_or(65536 + 13, |x| x.1 as u64);
     let [proved, fast] = times([
-        &mut |_| assert_eq!(calls::correct(MODULUS, basis, w, &mut out, &mut s), answer),
+        &mut |_| assert_eq!(calls::correct(MODULUS, basis, 0, w, &mut out, &mut s), answer),
         &mut |_| assert_eq!(gao::correct(f, &space, w), near),
     ]);
     let right = near.map(|x| x.0);
     assert!(right.as_ref().map_or(true, |c| *c == out));
-    let model = (n <= 256).then(|| time(|_| assert_eq!(nearest::nearest(MODULUS, basis, w), right)) / 1000.0);
+    let model = (n <= 256).then(|| time(|_| assert_eq!(nearest::nearest(MODULUS, basis, 0, w), right)) / 1000.0);
     Row { at, proved: proved / 1000.0, plain: fast / 1000.0, model }
 }
 
@@ -54,9 +54,9 @@ fn undamaged(f: &Field, basis: &[u16]) {
     let (mut p, mut out, mut s) = (vec![0; n / 8], vec![0; n], vec![0; 16 * n]);
     let mut t = s.clone();
     let [decode, plain_decode, correct, plain_correct] = times([
-        &mut |_| assert_eq!(calls::decode(MODULUS, basis, &c, &mut p, &mut s), 0),
+        &mut |_| assert_eq!(calls::decode(MODULUS, basis, 0, &c, &mut p, &mut s), 0),
         &mut |_| assert!(plain::decode(f, &space, &c).is_some()),
-        &mut |_| assert_eq!(calls::correct(MODULUS, basis, &c, &mut out, &mut t), 0),
+        &mut |_| assert_eq!(calls::correct(MODULUS, basis, 0, &c, &mut out, &mut t), 0),
         &mut |_| assert!(gao::correct(f, &space, &c).is_some()),
     ]);
     println!("an undamaged word at k = 12, decoded: proved {:.1}, log tables {:.1} microseconds;", decode / 1000.0, plain_decode / 1000.0);

@@ -78,8 +78,8 @@ fn field(basis: &[u16]) {
     let (f, mut y, mut z) = (plain::Field::new(MODULUS), 3u16, 3u16);
     println!("  model                           {:10.1} ns", time(|_| y = model::mul(MODULUS, y | 1, 40503)));
     println!("  log tables                      {:10.1} ns", time(|_| z = f.mul(z | 1, 40503)));
-    println!("checks 1 to 5 at l = 16, k = 12   {:10.1} ns", time(|_| assert_eq!(calls::setting(MODULUS, basis), 0)));
-    println!("  model                           {:10.1} ns", time(|_| assert_eq!(model::setting(MODULUS, basis), 0)));
+    println!("checks 1 to 5 at l = 16, k = 12   {:10.1} ns", time(|_| assert_eq!(calls::setting(MODULUS, basis, 0), 0)));
+    println!("  model                           {:10.1} ns", time(|_| assert_eq!(model::setting(MODULUS, basis, 0), 0)));
 }
 
 /// Microseconds of one operation, at some k or number of differences: proved, with log tables, by the model.
@@ -110,33 +110,51 @@ fn dimension(f: &plain::Field, basis: &[u16]) -> [Row; 4] {
     let row = |proved, plain, model: Option<f64>| Row { at: k, proved: us(proved), plain: us(plain), model: model.map(us) };
 
     let [proved, fast] = times([
-        &mut |_| assert_eq!(calls::encode(MODULUS, basis, &p, &mut w, &mut s), 0),
+        &mut |_| assert_eq!(calls::encode(MODULUS, basis, 0, &p, &mut w, &mut s), 0),
         &mut |_| drop(black_box(plain::encode(f, &space, &p))),
     ]);
     assert_eq!(plain::encode(f, &space, &p), w);
-    let encode = row(proved, fast, (k <= 10).then(|| time(|_| assert_eq!(model::word_of(MODULUS, basis, &p), w))));
+    let encode = row(proved, fast, (k <= 10).then(|| time(|_| assert_eq!(model::word_of(MODULUS, basis, 0, &p), w))));
 
     let [proved, fast] = times([
-        &mut |_| assert_eq!(calls::decode(MODULUS, basis, &w, &mut q, &mut s), 0),
+        &mut |_| assert_eq!(calls::decode(MODULUS, basis, 0, &w, &mut q, &mut s), 0),
         &mut |_| assert_eq!(plain::decode(f, &space, &w).as_ref(), Some(&p)),
     ]);
-    let decode = row(proved, fast, (k <= 8).then(|| time(|_| assert_eq!(model::through_first(MODULUS, basis, &w), p))));
+    let decode = row(proved, fast, (k <= 8).then(|| time(|_| assert_eq!(model::through_first(MODULUS, basis, 0, &w), p))));
 
     let [proved, fast] = times([
-        &mut |_| assert_eq!(calls::prove(MODULUS, basis, &w, &mut pi, &mut s), 0),
+        &mut |_| assert_eq!(calls::prove(MODULUS, basis, 0, &w, &mut pi, &mut s), 0),
         &mut |_| plain::prove(f, &space, &w, &mut plain_pi),
     ]);
     assert_eq!(pi, plain_pi);
     let prove = row(proved, fast, (k <= 9).then(|| time(|_| assert_eq!(model::proof_of(MODULUS, basis, &p), pi))));
 
     let [with_checks, checks, fast] = times([
-        &mut |i| assert!(calls::check(MODULUS, basis, &w, &pi, coin_at(k, i)) <= 64),
-        &mut |_| assert_eq!(calls::setting(MODULUS, basis), 0),
+        &mut |i| assert!(calls::check(MODULUS, basis, 0, &w, &pi, coin_at(k, i)) <= 64),
+        &mut |_| assert_eq!(calls::setting(MODULUS, basis, 0), 0),
         &mut |i| assert!(plain::check(f, &space, &w, &pi, coin_at(k, i))),
     ]);
-    let slow = time(|i| assert!(model::check(MODULUS, basis, &w, &pi, coin_at(k, i)) <= 64));
+    let slow = time(|i| assert!(model::check(MODULUS, basis, 0, &w, &pi, coin_at(k, i)) <= 64));
     println!("k {k:2}: a coin with checks 1 to 5 {with_checks:8.1} ns, checks 1 to 5 {checks:8.1} ns");
     [encode, decode, prove, row(with_checks - checks, fast, Some(slow))]
+}
+
+/// Encode and decode with a shift beside the same calls with the shift 0, in microseconds.
+fn shifted(basis: &[u16]) {
+    let (k, shift) = (basis.len(), 40503);
+    let p: Vec<u16> = (0..1u32 << (k - 3)).map(|i| (i * 25717 + 11) as u16).collect();
+    let [mut w, mut v] = [0, shift].map(|at| model::word_of(MODULUS, basis, at, &p));
+    let (words, mut q, mut r, mut s) = ([w.clone(), v.clone()], p.clone(), p.clone(), vec![vec![0u16; 4 << k]; 4]);
+    let [s0, s1, s2, s3] = &mut s[..] else { unreachable!() };
+    let [encode, encode_at, decode, decode_at] = times([
+        &mut |_| assert_eq!(calls::encode(MODULUS, basis, 0, &p, &mut w, s0), 0),
+        &mut |_| assert_eq!(calls::encode(MODULUS, basis, shift, &p, &mut v, s1), 0),
+        &mut |_| assert_eq!(calls::decode(MODULUS, basis, 0, &words[0], &mut q, s2), 0),
+        &mut |_| assert_eq!(calls::decode(MODULUS, basis, shift, &words[1], &mut r, s3), 0),
+    ]);
+    assert_eq!((&[w, v], &q, &r), (&words, &p, &p));
+    let [a, b, c, d] = [encode, encode_at, decode, decode_at].map(|ns| ns / 1000.0);
+    println!("{k:4} {a:9.2} {b:9.2} {:7.2} {c:11.2} {d:9.2} {:7.2}", b / a, d / c);
 }
 
 /// The word and the proof of a stored file, decoded, and the verdict for one coin.
@@ -186,7 +204,7 @@ fn stored(f: &plain::Field, basis: &[u16]) {
     ]);
     let slow = time(|i| {
         let x = file::read(&bytes).ok().expect("the file is accepted");
-        assert!(model::check(x.modulus, &x.basis, &x.word, &x.proof, coin_at(12, i)) <= 64);
+        assert!(model::check(x.modulus, &x.basis, 0, &x.word, &x.proof, coin_at(12, i)) <= 64);
     });
     println!("one coin from C on a stored file of {} bytes, k = 12, with the whole file checked: proved {:.3} ms;", bytes.len(), proved / 1e6);
     println!("  decoded and not checked, log tables {:.3} ms; model {:.1} ms", fast / 1e6, slow / 1e6);
@@ -242,6 +260,8 @@ fn main() {
     for (i, name) in names.iter().enumerate() {
         table(name, "k", &rows.iter().map(|r| r[i]).collect::<Vec<_>>());
     }
+    println!("\nencode and decode without and with a shift (microseconds)\n   k    encode with shift   ratio      decode with shift   ratio");
+    (7..=12).for_each(|k| shifted(&basis[..k]));
     let corrections = correction::all(&f, &basis);
     println!("\na stored file at k = 8 counted: its 2048 coins, and the correction of its word");
     [0, 1, 112, 128].into_iter().for_each(|count| counted(&f, &basis[..8], count));

@@ -4,12 +4,12 @@ mod raw {
         pub fn proximity_sum(modulus: u32, a: u16, b: u16) -> u32;
         pub fn proximity_product(modulus: u32, a: u16, b: u16) -> u32;
         pub fn proximity_products(modulus: u32, factors: *const u16, n: usize, values: *mut u16, v: usize) -> u32;
-        pub fn proximity_setting(modulus: u32, basis: *const u16, n: usize) -> u32;
-        pub fn proximity_encode(modulus: u32, basis: *const u16, n: usize, p: *const u16, np: usize, word: *mut u16, w: usize, scratch: *mut u16, s: usize) -> u32;
-        pub fn proximity_decode(modulus: u32, basis: *const u16, n: usize, word: *const u16, w: usize, p: *mut u16, np: usize, scratch: *mut u16, s: usize) -> u32;
-        pub fn proximity_prove(modulus: u32, basis: *const u16, n: usize, word: *const u16, w: usize, proof: *mut u16, p: usize, scratch: *mut u16, s: usize) -> u32;
-        pub fn proximity_correct(modulus: u32, basis: *const u16, n: usize, word: *const u16, w: usize, corrected: *mut u16, c: usize, scratch: *mut u16, s: usize) -> u64;
-        pub fn proximity_check(modulus: u32, basis: *const u16, n: usize, word: *const u16, w: usize, proof: *const u16, p: usize, coin: u64) -> u64;
+        pub fn proximity_setting(modulus: u32, basis: *const u16, n: usize, shift: u16) -> u32;
+        pub fn proximity_encode(modulus: u32, basis: *const u16, n: usize, shift: u16, p: *const u16, np: usize, word: *mut u16, w: usize, scratch: *mut u16, s: usize) -> u32;
+        pub fn proximity_decode(modulus: u32, basis: *const u16, n: usize, shift: u16, word: *const u16, w: usize, p: *mut u16, np: usize, scratch: *mut u16, s: usize) -> u32;
+        pub fn proximity_prove(modulus: u32, basis: *const u16, n: usize, shift: u16, word: *const u16, w: usize, proof: *mut u16, p: usize, scratch: *mut u16, s: usize) -> u32;
+        pub fn proximity_correct(modulus: u32, basis: *const u16, n: usize, shift: u16, word: *const u16, w: usize, corrected: *mut u16, c: usize, scratch: *mut u16, s: usize) -> u64;
+        pub fn proximity_check(modulus: u32, basis: *const u16, n: usize, shift: u16, word: *const u16, w: usize, proof: *const u16, p: usize, coin: u64) -> u64;
         pub fn proximity_write(modulus: u32, basis: *const u16, n: usize, word: *const u16, w: usize, proof: *const u16, p: usize, out: *mut u8, o: usize) -> u32;
         pub fn proximity_make(message: *const u8, n: usize, out: *mut u8, o: usize) -> u32;
         pub fn proximity_total(file: *const u8, n: usize, which: u32) -> u64;
@@ -34,29 +34,29 @@ pub fn products(m: u32, factors: &[u16], values: &mut [u16]) -> u32 {
     unsafe { raw::proximity_products(m, factors.as_ptr(), factors.len(), values.as_mut_ptr(), values.len()) }
 }
 
-pub fn setting(m: u32, b: &[u16]) -> u32 {
-    unsafe { raw::proximity_setting(m, b.as_ptr(), b.len()) }
+pub fn setting(m: u32, b: &[u16], shift: u16) -> u32 {
+    unsafe { raw::proximity_setting(m, b.as_ptr(), b.len(), shift) }
 }
 
-pub fn encode(m: u32, b: &[u16], p: &[u16], w: &mut [u16], s: &mut [u16]) -> u32 {
-    unsafe { raw::proximity_encode(m, b.as_ptr(), b.len(), p.as_ptr(), p.len(), w.as_mut_ptr(), w.len(), s.as_mut_ptr(), s.len()) }
+pub fn encode(m: u32, b: &[u16], shift: u16, p: &[u16], w: &mut [u16], s: &mut [u16]) -> u32 {
+    unsafe { raw::proximity_encode(m, b.as_ptr(), b.len(), shift, p.as_ptr(), p.len(), w.as_mut_ptr(), w.len(), s.as_mut_ptr(), s.len()) }
 }
 
-pub fn decode(m: u32, b: &[u16], w: &[u16], p: &mut [u16], s: &mut [u16]) -> u32 {
-    unsafe { raw::proximity_decode(m, b.as_ptr(), b.len(), w.as_ptr(), w.len(), p.as_mut_ptr(), p.len(), s.as_mut_ptr(), s.len()) }
+pub fn decode(m: u32, b: &[u16], shift: u16, w: &[u16], p: &mut [u16], s: &mut [u16]) -> u32 {
+    unsafe { raw::proximity_decode(m, b.as_ptr(), b.len(), shift, w.as_ptr(), w.len(), p.as_mut_ptr(), p.len(), s.as_mut_ptr(), s.len()) }
 }
 
-pub fn prove(m: u32, b: &[u16], w: &[u16], p: &mut [u16], s: &mut [u16]) -> u32 {
-    unsafe { raw::proximity_prove(m, b.as_ptr(), b.len(), w.as_ptr(), w.len(), p.as_mut_ptr(), p.len(), s.as_mut_ptr(), s.len()) }
+pub fn prove(m: u32, b: &[u16], shift: u16, w: &[u16], p: &mut [u16], s: &mut [u16]) -> u32 {
+    unsafe { raw::proximity_prove(m, b.as_ptr(), b.len(), shift, w.as_ptr(), w.len(), p.as_mut_ptr(), p.len(), s.as_mut_ptr(), s.len()) }
 }
 
 /// The number of differences, or 65536 and the number of a refusal.
-pub fn correct(m: u32, b: &[u16], w: &[u16], out: &mut [u16], s: &mut [u16]) -> u64 {
-    unsafe { raw::proximity_correct(m, b.as_ptr(), b.len(), w.as_ptr(), w.len(), out.as_mut_ptr(), out.len(), s.as_mut_ptr(), s.len()) }
+pub fn correct(m: u32, b: &[u16], shift: u16, w: &[u16], out: &mut [u16], s: &mut [u16]) -> u64 {
+    unsafe { raw::proximity_correct(m, b.as_ptr(), b.len(), shift, w.as_ptr(), w.len(), out.as_mut_ptr(), out.len(), s.as_mut_ptr(), s.len()) }
 }
 
-pub fn check(m: u32, b: &[u16], w: &[u16], p: &[u16], coin: u64) -> u64 {
-    unsafe { raw::proximity_check(m, b.as_ptr(), b.len(), w.as_ptr(), w.len(), p.as_ptr(), p.len(), coin) }
+pub fn check(m: u32, b: &[u16], shift: u16, w: &[u16], p: &[u16], coin: u64) -> u64 {
+    unsafe { raw::proximity_check(m, b.as_ptr(), b.len(), shift, w.as_ptr(), w.len(), p.as_ptr(), p.len(), coin) }
 }
 
 pub fn write(m: u32, b: &[u16], w: &[u16], p: &[u16], out: &mut [u8]) -> u32 {

@@ -89,7 +89,7 @@ fn any_files(t: &mut Tally) {
 
 /// At how many positions the word differs from the polynomial through its first eighth.
 fn off_first(x: &Delivery) -> usize {
-    differences(&x.w, &model::word_of(x.s.m, &x.s.b, &model::through_first(x.s.m, &x.s.b, &x.w)))
+    differences(&x.w, &model::word_of(x.s.m, &x.s.b, 0, &model::through_first(x.s.m, &x.s.b, 0, &x.w)))
 }
 
 /// Damages the word, or draws one at random; hands back the number of differences where it is known.

@@ -1,4 +1,4 @@
-//! The stored file, written from document 01: slow and direct.
+//! The stored file, written from document 01: slow and direct. Its setting has the shift 0.
 use crate::model::{coin_bits, degree, irreducible, independent, positions, proof_length, LARGEST};
 use crate::nearest::{differences, nearest};
 
@@ -133,7 +133,7 @@ pub fn read_message(bytes: &[u8], room: usize) -> Result<(u32, Vec<u16>, Vec<u16
 pub fn coin_numbers(f: &File) -> [u64; 4] {
     let k = f.basis.len();
     let coins = 1u64 << coin_bits(k);
-    let rejects = (0..coins).filter(|c| crate::model::check(f.modulus, &f.basis, &f.word, &f.proof, *c) >> 16 == 1).count();
+    let rejects = (0..coins).filter(|c| crate::model::check(f.modulus, &f.basis, 0, &f.word, &f.proof, *c) >> 16 == 1).count();
     let most = (0..coins).map(|c| positions(k, c).len()).max().unwrap_or(0);
     [k as u64, coins, rejects as u64, most as u64]
 }
@@ -150,6 +150,6 @@ pub struct Counts {
 pub fn count(bytes: &[u8]) -> Result<Counts, u32> {
     refuse_if(bytes.len() > FILE_LIMIT, 6)?;
     let f = read(bytes)?;
-    let off = nearest(f.modulus, &f.basis, &f.word).map(|c| differences(&c, &f.word));
+    let off = nearest(f.modulus, &f.basis, 0, &f.word).map(|c| differences(&c, &f.word));
     Ok(Counts { numbers: coin_numbers(&f), off })
 }

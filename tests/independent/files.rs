@@ -22,7 +22,7 @@ pub fn delivery(d: &mut Draw, k: usize) -> Delivery {
 pub fn delivery_in(d: &mut Draw, s: Setting) -> Delivery {
     let k = s.b.len();
     let p = d.list(1 << (k - 3), 1 << s.l);
-    let (w, proof) = (model::word_of(s.m, &s.b, &p), model::proof_of(s.m, &s.b, &p));
+    let (w, proof) = (model::word_of(s.m, &s.b, 0, &p), model::proof_of(s.m, &s.b, &p));
     Delivery { s, p, w, proof }
 }
 
@@ -35,7 +35,7 @@ fn same(f: &[u8], coin: u64, met: &mut Met) -> bool {
     let (number, bits, answer) = match file::read(f) {
         Err(n) => (n, 0, (n, calls::UNREAD)),
         Ok(x) => {
-            let v = model::check(x.modulus, &x.basis, &x.word, &x.proof, coin);
+            let v = model::check(x.modulus, &x.basis, 0, &x.word, &x.proof, coin);
             (0, model::coin_bits(x.basis.len()), model::host_answer(v, calls::UNREAD))
         }
     };

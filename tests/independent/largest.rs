@@ -1,8 +1,9 @@
 //! The larger dimensions: at each one delivery of the model, whole, and some coins of it, on symbols and from C.
 use crate::codec::left;
 use crate::files::coded;
+use crate::shifts::proof_at;
 use crate::symbols::Pair;
-use crate::{calls, file, model, setting, Draw, Met, Tally};
+use crate::{calls, file, model, Draw, Met, Shifts, Tally};
 
 struct Delivery {
     k: usize,
@@ -10,29 +11,29 @@ struct Delivery {
     x: Pair,
 }
 
-fn delivery(d: &mut Draw, k: usize) -> Delivery {
-    let s = setting(d, k);
+fn delivery(d: &mut Draw, shifts: Shifts, k: usize) -> Delivery {
+    let s = shifts.setting(d, k);
     let p = d.list(1 << (k - 3), 1 << s.l);
-    let (w, proof) = (model::word_of(s.m, &s.b, &p), model::proof_of(s.m, &s.b, &p));
+    let (w, proof) = (model::word_of(s.m, &s.b, s.shift, &p), proof_at(&s, &p));
     Delivery { k, p, x: Pair { s, w, proof } }
 }
 
-type Call = fn(u32, &[u16], &[u16], &mut [u16], &mut [u16]) -> u32;
+type Call = fn(u32, &[u16], u16, &[u16], &mut [u16], &mut [u16]) -> u32;
 
 /// Whether a call gives this number, and leaves its output and its scratch, which start as noise, as it must.
 fn gives(d: &mut Draw, y: &Delivery, call: Call, given: &[u16], number: u32, right: &[u16]) -> bool {
     let (old, scratch) = (d.list(right.len(), 65536), d.list((4 << y.k) + 5, 65536));
     let (mut out, mut s) = (old.clone(), scratch.clone());
-    let got = call(y.x.s.m, &y.x.s.b, given, &mut out, &mut s);
+    let got = call(y.x.s.m, &y.x.s.b, y.x.s.shift, given, &mut out, &mut s);
     got == number && (out, s) == left(number, right.to_vec(), &old, &scratch)
 }
 
 /// Encoder, decoder and prover on the delivery, and the last two on a word with one symbol changed.
-fn whole(t: &mut Tally, d: &mut Draw, y: &Delivery) {
+fn whole(t: &mut Tally, shifts: Shifts, d: &mut Draw, y: &Delivery) {
     let Delivery { k, p, x } = y;
     let mut off = x.w.clone();
     off[d.below(1 << k) as usize] ^= 1 + d.below((1 << x.s.l) - 1) as u16;
-    let number = if model::is_codeword(x.s.m, &x.s.b, &off) { 0 } else { 10 };
+    let number = if model::is_codeword(x.s.m, &x.s.b, x.s.shift, &off) { 0 } else { 10 };
     let right = [
         gives(d, y, calls::encode, p, 0, &x.w),
         gives(d, y, calls::decode, &x.w, 0, p),
@@ -41,7 +42,7 @@ fn whole(t: &mut Tally, d: &mut Draw, y: &Delivery) {
         gives(d, y, calls::prove, &off, number, &x.proof),
         number == 10,
     ];
-    t.group(&format!("word, decoding and proof at k = {k}"), right.iter().filter(|x| !**x).count() as u64, 6);
+    t.group(&shifts.name(&format!("word, decoding and proof at k = {k}")), right.iter().filter(|x| !**x).count() as u64, 6);
 }
 
 /// A coin in range, and a place that it reads.
@@ -52,7 +53,7 @@ fn coin(d: &mut Draw, k: usize) -> (u64, model::Place) {
 }
 
 /// The checker on symbols; in every second turn a symbol that the coin reads is changed.
-fn symbols(t: &mut Tally, d: &mut Draw, y: &mut Delivery) {
+fn symbols(t: &mut Tally, shifts: Shifts, d: &mut Draw, y: &mut Delivery) {
     let (mut wrong, mut met) = (0, Met::default());
     for turn in 0..200 {
         let (coin, at) = coin(d, y.k);
@@ -63,7 +64,7 @@ fn symbols(t: &mut Tally, d: &mut Draw, y: &mut Delivery) {
         wrong += u64::from(!y.x.same(coin, &mut met));
         y.x.swap(at, kept);
     }
-    t.answers(&format!("coins at k = {}", y.k), wrong, &met, &[0, 100]);
+    t.answers(&shifts.name(&format!("coins at k = {}", y.k)), wrong, &met, &[0, 100]);
 }
 
 /// Where the bytes of a place stand in the file.
@@ -101,7 +102,7 @@ fn bytes(t: &mut Tally, d: &mut Draw, y: &mut Delivery) {
         } else {
             f[byte_of(y.k, at)..][..2].copy_from_slice(&symbol.to_le_bytes());
         }
-        let right = model::host_answer(model::check(y.x.s.m, &y.x.s.b, &y.x.w, &y.x.proof, coin), calls::UNREAD);
+        let right = model::host_answer(model::check(y.x.s.m, &y.x.s.b, 0, &y.x.w, &y.x.proof, coin), calls::UNREAD);
         wrong += u64::from(calls::check_file(&f, coin) != right);
         met.add(right.0);
         y.x.swap(at, kept);
@@ -110,13 +111,16 @@ fn bytes(t: &mut Tally, d: &mut Draw, y: &mut Delivery) {
     t.answers(&format!("coins from C at k = {}", y.k), wrong, &met, &[0, 100]);
 }
 
-pub fn all(t: &mut Tally) {
+/// Files have the shift 0.
+pub fn all(t: &mut Tally, shifts: Shifts) {
     let mut d = Draw(0xbb67ae8584caa73b);
     for k in 8..=12 {
-        let mut y = delivery(&mut d, k);
-        whole(t, &mut d, &y);
-        symbols(t, &mut d, &mut y);
-        stored(t, &y);
-        bytes(t, &mut d, &mut y);
+        let mut y = delivery(&mut d, shifts, k);
+        whole(t, shifts, &mut d, &y);
+        symbols(t, shifts, &mut d, &mut y);
+        if shifts == Shifts::Zero {
+            stored(t, &y);
+            bytes(t, &mut d, &mut y);
+        }
     }
 }

@@ -11,10 +11,12 @@ mod model;
 mod nearest;
 mod reduction;
 mod report;
+mod shifts;
 mod stream;
 mod symbols;
 mod writers;
 
+use shifts::Shifts;
 use std::collections::BTreeMap;
 
 /// xorshift, with a fixed seed.
@@ -95,20 +97,26 @@ pub fn basis(d: &mut Draw, l: u32, k: usize) -> Vec<u16> {
     }
 }
 
-/// A modulus of degree l and a basis.
+/// A modulus of degree l, a basis and a shift.
 pub struct Setting {
     pub l: u32,
     pub m: u32,
     pub b: Vec<u16>,
+    pub shift: u16,
 }
 
-/// A setting of dimension k that passes.
+/// A setting of degree l, dimension k and shift 0 that passes.
+pub fn setting_of(d: &mut Draw, l: u32, k: usize) -> Setting {
+    Setting { l, m: modulus(d, l), b: basis(d, l, k), shift: 0 }
+}
+
+/// A setting of dimension k and shift 0 that passes.
 pub fn setting(d: &mut Draw, k: usize) -> Setting {
     let l = (k as u64).max(3 + d.below(14)) as u32;
-    Setting { l, m: modulus(d, l), b: basis(d, l, k) }
+    setting_of(d, l, k)
 }
 
-/// Spoils a setting: check 1, 2, 3, 4 or 5 refuses it, but for a few.
+/// Spoils a setting: check 1, 2, 3, 4 or 5 refuses it, but for a few. The shift is left.
 pub fn spoil_setting(d: &mut Draw, s: &mut Setting) {
     let k = s.b.len() as u64;
     let (i, j) = (d.below(k) as usize, d.below(k) as usize);
@@ -143,9 +151,13 @@ fn main() {
     let mut t = Tally::default();
     symbols::all(&mut t);
     reduction::all(&mut t);
-    codec::all(&mut t);
-    correction::all(&mut t);
-    largest::all(&mut t);
+    for shifts in [Shifts::Zero, Shifts::Any] {
+        symbols::checker(&mut t, shifts);
+        codec::all(&mut t, shifts);
+        correction::all(&mut t, shifts);
+        largest::all(&mut t, shifts);
+    }
+    shifts::all(&mut t);
     files::all(&mut t);
     writers::all(&mut t);
     counter::all(&mut t);

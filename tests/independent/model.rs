@@ -1,4 +1,4 @@
-//! Field, word, proof and verdict, written from documents 000 and 01: slow and direct, without tables.
+//! Field, word, proof and verdict, written from documents 000, 01 and 02: slow and direct, without tables.
 
 pub use crate::arithmetic::{degree, inverse, irreducible, mul};
 
@@ -6,6 +6,11 @@ pub const LARGEST: usize = 12;
 
 pub fn elem(basis: &[u16], i: usize) -> u16 {
     basis.iter().enumerate().filter(|(j, _)| i >> j & 1 == 1).fold(0, |s, (_, b)| s ^ b)
+}
+
+/// The first n elements, each plus the shift.
+pub fn points(basis: &[u16], shift: u16, n: usize) -> Vec<u16> {
+    (0..n).map(|i| shift ^ elem(basis, i)).collect()
 }
 
 pub fn independent(basis: &[u16]) -> bool {
@@ -25,8 +30,8 @@ pub fn independent(basis: &[u16]) -> bool {
     true
 }
 
-/// Checks 1 to 5.
-pub fn setting(m: u32, basis: &[u16]) -> u32 {
+/// Checks 1 to 5, the shift's as the last of check 4.
+pub fn setting(m: u32, basis: &[u16], shift: u16) -> u32 {
     if m < 8 || m > 131071 {
         1
     } else if !irreducible(m) {
@@ -34,6 +39,8 @@ pub fn setting(m: u32, basis: &[u16]) -> u32 {
     } else if basis.len() < 3 || basis.len() > LARGEST {
         3
     } else if basis.iter().any(|b| (*b as u32) >> degree(m) != 0) {
+        4
+    } else if (shift as u32) >> degree(m) != 0 {
         4
     } else if !independent(basis) {
         5
@@ -46,8 +53,9 @@ pub fn eval(m: u32, p: &[u16], x: u16) -> u16 {
     p.iter().rev().fold(0, |s, c| mul(m, s, x) ^ c)
 }
 
-pub fn word_of(m: u32, basis: &[u16], p: &[u16]) -> Vec<u16> {
-    (0..1usize << basis.len()).map(|i| eval(m, p, elem(basis, i))).collect()
+/// P at the shift plus element i in position i.
+pub fn word_of(m: u32, basis: &[u16], shift: u16, p: &[u16]) -> Vec<u16> {
+    points(basis, shift, 1 << basis.len()).into_iter().map(|x| eval(m, p, x)).collect()
 }
 
 /// The polynomial through n points, by Newton's divided differences.
@@ -75,14 +83,13 @@ pub fn interpolate(m: u32, xs: &[u16], ys: &[u16]) -> Vec<u16> {
 }
 
 /// The polynomial of degree below n/8 through the first n/8 symbols.
-pub fn through_first(m: u32, basis: &[u16], w: &[u16]) -> Vec<u16> {
+pub fn through_first(m: u32, basis: &[u16], shift: u16, w: &[u16]) -> Vec<u16> {
     let n = w.len() / 8;
-    let xs: Vec<u16> = (0..n).map(|i| elem(basis, i)).collect();
-    interpolate(m, &xs, &w[..n])
+    interpolate(m, &points(basis, shift, n), &w[..n])
 }
 
-pub fn is_codeword(m: u32, basis: &[u16], w: &[u16]) -> bool {
-    word_of(m, basis, &through_first(m, basis, w)) == w
+pub fn is_codeword(m: u32, basis: &[u16], shift: u16, w: &[u16]) -> bool {
+    word_of(m, basis, shift, &through_first(m, basis, shift, w)) == w
 }
 
 pub fn proof_length(k: usize) -> usize {
@@ -161,15 +168,14 @@ fn digits_of(m: u32, p: &[u16], q: &[u16], count: usize) -> Vec<Vec<u16>> {
     digits
 }
 
-/// The proof of the polynomial p of 2^(k-3) coefficients.
+/// The proof of the polynomial p of 2^(k-3) coefficients, over the space.
 pub fn proof_of(m: u32, basis: &[u16], p: &[u16]) -> Vec<u16> {
     let k = basis.len();
     if k <= 6 {
         return vec![];
     }
     let (h, c) = (k / 2, k - k / 2);
-    let span: Vec<u16> = (0..1usize << h).map(|i| elem(&basis[..h], i)).collect();
-    let q = roots(m, &span);
+    let q = roots(m, &points(&basis[..h], 0, 1 << h));
     let digits = digits_of(m, p, &q, 1 << (c - 3));
     let size = 1usize << h;
     let mut rows = vec![];
@@ -179,7 +185,7 @@ pub fn proof_of(m: u32, basis: &[u16], p: &[u16]) -> Vec<u16> {
     }
     let mut proof = vec![];
     for (r, poly) in rows.iter().enumerate() {
-        let w = word_of(m, &row_basis(basis, r), poly);
+        let w = word_of(m, &row_basis(basis, r), 0, poly);
         for b in (0..8).filter(|b| *b != r.min(4)) {
             proof.extend_from_slice(&w[b * size..b * size + size]);
         }
@@ -252,9 +258,9 @@ pub fn leaf_basis(m: u32, basis: &[u16], coin: u64) -> Vec<u16> {
     }
 }
 
-/// The answer of the checker as exports codes it.
-pub fn check(m: u32, basis: &[u16], word: &[u16], proof: &[u16], coin: u64) -> u64 {
-    let n = setting(m, basis);
+/// The answer of the checker as exports codes it: rows and columns have no shift.
+pub fn check(m: u32, basis: &[u16], shift: u16, word: &[u16], proof: &[u16], coin: u64) -> u64 {
+    let n = setting(m, basis, shift);
     if n != 0 {
         return 131072 + n as u64;
     }
@@ -272,7 +278,7 @@ pub fn check(m: u32, basis: &[u16], word: &[u16], proof: &[u16], coin: u64) -> u
     if read.iter().any(|x| (*x as u32) >> degree(m) != 0) {
         return 131072 + 9;
     }
-    read.len() as u64 + if is_codeword(m, &leaf_basis(m, basis, coin), &read) { 0 } else { 65536 }
+    read.len() as u64 + if is_codeword(m, &leaf_basis(m, basis, coin), 0, &read) { 0 } else { 65536 }
 }
 
 /// The same as the host kit's answer and reads: 0 or 100, or the number of a refusal, which leaves the reads as they were.

@@ -88,23 +88,23 @@ fn locator(m: u32, xs: &[u16], w: &[u16]) -> Option<Vec<u16>> {
     dependency(&f, &mut rows).map(|x| x[size..].to_vec())
 }
 
-/// The codeword that differs from the word at no more positions than the radius.
-pub fn nearest(m: u32, basis: &[u16], w: &[u16]) -> Option<Vec<u16>> {
-    let xs: Vec<u16> = (0..w.len()).map(|i| model::elem(basis, i)).collect();
+/// The codeword at the shift that differs from the word at no more positions than the radius.
+pub fn nearest(m: u32, basis: &[u16], shift: u16, w: &[u16]) -> Option<Vec<u16>> {
+    let xs = model::points(basis, shift, w.len());
     let e = locator(m, &xs, w)?;
     let good: Vec<usize> = (0..w.len()).filter(|i| model::eval(m, &e, xs[*i]) != 0).take(w.len() / 8).collect();
     let at = |list: &[u16]| -> Vec<u16> { good.iter().map(|i| list[*i]).collect() };
-    let c = model::word_of(m, basis, &model::interpolate(m, &at(&xs), &at(w)));
+    let c = model::word_of(m, basis, shift, &model::interpolate(m, &at(&xs), &at(w)));
     (differences(&c, w) <= radius(w.len())).then_some(c)
 }
 
 /// All codewords that near, by trying every polynomial.
-pub fn by_trial(m: u32, basis: &[u16], w: &[u16]) -> Vec<Vec<u16>> {
+pub fn by_trial(m: u32, basis: &[u16], shift: u16, w: &[u16]) -> Vec<Vec<u16>> {
     let (l, count) = (model::degree(m) as usize, w.len() / 8);
     let mut found = vec![];
     for number in 0..1usize << (l * count) {
         let p: Vec<u16> = (0..count).map(|i| (number >> (l * i) & ((1 << l) - 1)) as u16).collect();
-        let c = model::word_of(m, basis, &p);
+        let c = model::word_of(m, basis, shift, &p);
         if differences(&c, w) <= radius(w.len()) {
             found.push(c);
         }

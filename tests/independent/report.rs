@@ -1,7 +1,7 @@
 //! The delivery report: the proved entry at the front of a stream, and the program on whole streams, beside the independent model.
 use crate::files::{bytes, cuts, damaged_file, delivery, delivery_in, samples};
 use crate::stream::{entries, front, report, Known, FILES};
-use crate::{basis, calls, damage, file, modulus, setting, spoil_setting, Draw, Met, Setting, Tally};
+use crate::{calls, damage, file, setting, setting_of, spoil_setting, Draw, Met, Tally};
 use std::io::{ErrorKind, Write};
 use std::process::{Child, Command, Output, Stdio};
 use std::time::Duration;
@@ -169,7 +169,7 @@ fn changed(s: &mut Streams) {
 /// Streams whose refusal is known: the place and the number, or zeros.
 fn fixed(t: &mut Tally, s: &mut Streams) {
     changed(s);
-    let wide = Setting { l: 16, m: modulus(&mut s.d, 16), b: basis(&mut s.d, 16, 7) };
+    let wide = setting_of(&mut s.d, 16, 7);
     let seven = bytes(&delivery_in(&mut s.d, wide));
     let (three, eight, nine) = (s.files[0][0].clone(), s.files[5][1].clone(), bytes(&delivery(&mut s.d, 9)));
     let streams: [(&[&[u8]], usize, u32); 17] = [

@@ -1,11 +1,12 @@
 //! The calls on symbols without scratch: field, setting and checker.
-use crate::{calls, damage, model, modulus, outside, setting, spoil_setting, Draw, Met, Setting, Tally};
+use crate::shifts::proof_at;
+use crate::{calls, damage, model, modulus, outside, Draw, Met, Setting, Shifts, Tally};
 
 fn moduli(t: &mut Tally) {
     let (mut wrong, mut met) = (0, Met::default());
     for m in 0..131100 {
-        let n = model::setting(m, &[1, 2, 4]);
-        wrong += u64::from(calls::setting(m, &[1, 2, 4]) != n);
+        let n = model::setting(m, &[1, 2, 4], 0);
+        wrong += u64::from(calls::setting(m, &[1, 2, 4], 0) != n);
         met.add(n);
     }
     t.answers("moduli 0 to 131099", wrong, &met, &[0, 1, 2]);
@@ -24,7 +25,7 @@ fn field(t: &mut Tally) {
         let m = any_modulus(&mut d);
         let top = if i % 3 == 0 { 65536 } else { 1 << model::degree(m.max(8)).min(16) };
         let (a, b) = (d.below(top) as u16, d.below(top) as u16);
-        let n = match model::setting(m, &[1, 2, 4]) {
+        let n = match model::setting(m, &[1, 2, 4], 0) {
             0 if outside(m, &[a, b]) => 9,
             n => n,
         };
@@ -45,7 +46,7 @@ fn products(t: &mut Tally) {
         let n = d.below(70) as usize;
         let (values, factors) = (d.near(2 * n), d.list(n, top));
         let old = d.list(values, top);
-        let number = match model::setting(m, &[1, 2, 4]) {
+        let number = match model::setting(m, &[1, 2, 4], 0) {
             0 if values / 2 != n => 6,
             0 if outside(m, &factors) || outside(m, &old) => 9,
             number => number,
@@ -64,8 +65,8 @@ fn settings(t: &mut Tally) {
     let mut d = Draw(0xd1b54a32d192ed03);
     let (mut wrong, mut met) = (0, Met::default());
     let mut compare = |m: u32, b: &[u16]| {
-        let n = model::setting(m, b);
-        wrong += u64::from(calls::setting(m, b) != n);
+        let n = model::setting(m, b, 0);
+        wrong += u64::from(calls::setting(m, b, 0) != n);
         met.add(n);
     };
     for _ in 0..6000 {
@@ -94,17 +95,17 @@ impl Pair {
     }
     /// Whether the checker answers as the model; the answer goes into the table.
     pub fn same(&self, coin: u64, met: &mut Met) -> bool {
-        let v = model::check(self.s.m, &self.s.b, &self.w, &self.proof, coin);
+        let v = model::check(self.s.m, &self.s.b, self.s.shift, &self.w, &self.proof, coin);
         met.add(model::host_answer(v, 0).0);
-        calls::check(self.s.m, &self.s.b, &self.w, &self.proof, coin) == v
+        calls::check(self.s.m, &self.s.b, self.s.shift, &self.w, &self.proof, coin) == v
     }
 }
 
 /// A pair that is right, or damaged in a few places below 2^l or below 2^16.
-fn pair(d: &mut Draw, k: usize, turn: u64) -> Pair {
-    let s = setting(d, k);
+fn pair(d: &mut Draw, shifts: Shifts, k: usize, turn: u64) -> Pair {
+    let s = shifts.setting(d, k);
     let p = d.list(1 << (k - 3), 1 << s.l);
-    let (mut w, mut proof) = (model::word_of(s.m, &s.b, &p), model::proof_of(s.m, &s.b, &p));
+    let (mut w, mut proof) = (model::word_of(s.m, &s.b, s.shift, &p), proof_at(&s, &p));
     if turn % 2 == 1 {
         damage(d, &mut w, if turn % 4 == 1 { 1 << s.l } else { 65536 });
     }
@@ -123,12 +124,12 @@ fn coin(d: &mut Draw, k: usize) -> u64 {
     }
 }
 
-fn verdicts(t: &mut Tally) {
+fn verdicts(t: &mut Tally, shifts: Shifts) {
     let mut d = Draw(0x2545f4914f6cdd1d);
     for k in 3..=9usize {
         let (mut wrong, mut met) = (0, Met::default());
         for round in 0..if k <= 7 { 120 } else { 12 } {
-            let mut x = pair(&mut d, k, round);
+            let mut x = pair(&mut d, shifts, k, round);
             for turn in 0..if k <= 6 { 2 } else { 40 } {
                 let coin = coin(&mut d, k);
                 // in some turns a symbol that the coin reads is changed for the time of the call
@@ -142,32 +143,32 @@ fn verdicts(t: &mut Tally) {
                 x.swap(at, kept);
             }
         }
-        t.answers(&format!("verdicts at k = {k}"), wrong, &met, &[0, 8, 9, 100]);
+        t.answers(&shifts.name(&format!("verdicts at k = {k}")), wrong, &met, &[0, 8, 9, 100]);
     }
 }
 
 /// The checker with settings, lengths, coins and symbols that are right or not.
-fn refusals(t: &mut Tally) {
+fn refusals(t: &mut Tally, shifts: Shifts) {
     let mut d = Draw(0xb5c0fbcfec4d3b2f);
     let (mut wrong, mut met) = (0, Met::default());
     for round in 0..3000 {
         let k = 3 + d.below(5) as usize;
-        let mut x = pair(&mut d, k, round);
+        let mut x = pair(&mut d, shifts, k, round);
         if d.below(3) == 0 {
-            spoil_setting(&mut d, &mut x.s);
+            shifts.spoil(&mut d, &mut x.s);
         }
         let (w, p) = (d.near(x.w.len()), d.near(x.proof.len()));
         x.w.resize(w, 0);
         x.proof.resize(p, 0);
         wrong += u64::from(!x.same(coin(&mut d, k), &mut met));
     }
-    t.answers("refusals of the checker", wrong, &met, &[0, 1, 2, 3, 4, 5, 6, 8, 9, 100]);
+    t.answers(&shifts.name("refusals of the checker"), wrong, &met, &[0, 1, 2, 3, 4, 5, 6, 8, 9, 100]);
 }
 
 /// The bench cases of document 01 that are not proved, at k = 7.
 fn bench_cases(t: &mut Tally) {
     let b: Vec<u16> = (0..7).map(|i| 1 << i).collect();
-    let rejects = |w: &[u16], p: &[u16]| (0..64).filter(|c| calls::check(283, &b, w, p, *c) >> 16 == 1).count();
+    let rejects = |w: &[u16], p: &[u16]| (0..64).filter(|c| calls::check(283, &b, 0, w, p, *c) >> 16 == 1).count();
     let (w, p) = (vec![0u16; 128], vec![0u16; 896]);
     let (mut v, mut q) = (w.clone(), p.clone());
     (q[0], v[32]) = (1, 1);
@@ -175,10 +176,10 @@ fn bench_cases(t: &mut Tally) {
         rejects(&w, &p) == 0,
         rejects(&w, &q) == 3,
         rejects(&v, &p) == 2,
-        calls::check(283, &b, &w, &p, 63) >> 17 == 0,
-        calls::check(283, &b, &w, &p, 64) == 131072 + 8,
-        calls::check(283, &b[..6], &w[..64], &[], 0) == 64,
-        calls::check(283, &b[..6], &w[..64], &[], 1) == 131072 + 8,
+        calls::check(283, &b, 0, &w, &p, 63) >> 17 == 0,
+        calls::check(283, &b, 0, &w, &p, 64) == 131072 + 8,
+        calls::check(283, &b[..6], 0, &w[..64], &[], 0) == 64,
+        calls::check(283, &b[..6], 0, &w[..64], &[], 1) == 131072 + 8,
     ];
     t.group("bench cases at k = 6 and 7", right.iter().filter(|x| !**x).count() as u64, 7);
 }
@@ -189,6 +190,10 @@ pub fn all(t: &mut Tally) {
     products(t);
     settings(t);
     bench_cases(t);
-    verdicts(t);
-    refusals(t);
+}
+
+/// The checker.
+pub fn checker(t: &mut Tally, shifts: Shifts) {
+    verdicts(t, shifts);
+    refusals(t, shifts);
 }

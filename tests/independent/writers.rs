@@ -19,7 +19,7 @@ fn written(t: &mut Tally) {
         }
         let right = bytes(&x);
         let room = d.near(right.len());
-        let number = match model::setting(x.s.m, &x.s.b) {
+        let number = match model::setting(x.s.m, &x.s.b, 0) {
             0 if x.w.len() != 1 << k || x.proof.len() != model::proof_length(k) || room != right.len() => 6,
             0 if outside(x.s.m, &x.w) || outside(x.s.m, &x.proof) => 9,
             n => n,
@@ -69,7 +69,7 @@ fn messages(t: &mut Tally) {
         let (right, whole) = match read {
             Err(n) => (65536 + n, old),
             Ok((m, b, p)) => {
-                let made = file::bytes_of(m, &b, &model::word_of(m, &b, &p), &model::proof_of(m, &b, &p));
+                let made = file::bytes_of(m, &b, &model::word_of(m, &b, 0, &p), &model::proof_of(m, &b, &p));
                 (made.len() as u32, [&made[..], &old[made.len()..]].concat())
             }
         };

@@ -19,7 +19,8 @@ use Rattle.field.specs.Laws.{Ops, IsField, sums}
 use Rattle.field.specs.Symbols.{symbols}
 use Rattle.poly.specs.Poly.{eval}
 use Rattle.poly.specs.Span.{elem}
-use Rattle.poly.specs.Shift.{wordAt, CodewordAt, shiftP, length-shiftP, shiftP-sym, eval-shiftP, codeword-shift, decode-unique-at}
+use Rattle.poly.specs.Codeword.{wordOf, Codeword}
+use Rattle.poly.specs.Shift.{wordAt, CodewordAt, shiftP, length-shiftP, shiftP-sym, eval-shiftP, word-at-zero, codeword-shift, decode-unique-at}
 use Rattle.space.specs.Setting.{spanChecks, spaceChecks, settingChecks}
 use Rattle.space.specs.Sizes.{maxDim}
 use Rattle.space.specs.Sound.{Sound, sound, sound-field, setting-numbered, outside}
@@ -40,7 +41,8 @@ use Rattle.codec.specs.Calls.{wordChecks, Decoded}
 use Rattle.codec.specs.declared.Outcome.{Outcome}
 use Rattle.codec.specs.declared.Outcome.the-variants.{Done, Refused}
 use Rattle.prover.specs.Calls as prover
-use Rattle.prover.specs.Calls.{proveChecks, ProofAt, Proven}
+use Rattle.prover.specs.Calls.{proveChecks, ProofAt, ProofOf, Proven}
+use Rattle.terms.specs.Settings.{sound-11}
 
 -- ---- check 4
 
@@ -50,10 +52,29 @@ pub shift-out-of-range : (m : ℕ) (bs : List ℕ) (σ : ℕ) → GoodModulus m 
 shift-out-of-range m bs σ g l h e bad =
     answers-after (modulusChecks m) (spaceChecks m bs σ) 4 (modulus-numbered m) (good-passes m g) (inr (outside l h, inr ((λ no. no e), inl (bad, refl))))
 
-same : {P : Type 0} → P ↔ P
-same = ((λ p. p), λ p. p)
+-- As with 1, 1, 4, which is dependent, and the shift 8 modulo 11.
+pub four-before-five : Answers (settingChecks 11 (1 ∷ 1 ∷ 4 ∷ []) 8) 4
+unfolding degree
+four-before-five =
+    shift-out-of-range 11 (1 ∷ 1 ∷ 4 ∷ []) 8 (sound-11 0 (omega arith) .modulus) (omega arith) (omega arith) (omega arith, (omega arith, (omega arith, tt))) (λ h. omega arith)
+
+-- ---- the shift 0
+
+-- Words, codewords and proofs are those of document 01.
+module _ (m : ℕ) (bs : List ℕ) (s : Sound m bs 0) where
+  pub words-at-zero : (P : List ℕ) → wordAt (symbols m) 0 (length bs) bs P ≡ wordOf (symbols m) (length bs) bs P
+  words-at-zero = word-at-zero (sound-field s) (length bs) bs
+
+  pub codewords-at-zero : (w : List ℕ) → CodewordAt (symbols m) 0 (length bs) bs w ↔ Codeword (symbols m) (length bs) bs w
+  codewords-at-zero = codeword-shift (sound-field s) 0 (s .shift) (length bs) bs
+
+  pub proofs-at-zero : (w π : List ℕ) → ProofAt m bs 0 w π ↔ ProofOf m bs w π
+  proofs-at-zero w π = honest-shift (sound-field s) 0 (s .shift) (dim (length bs)) bs (s .basis) w π
 
 -- ---- two shifts
+
+same : {P : Type 0} → P ↔ P
+same = ((λ p. p), λ p. p)
 
 module _ (m : ℕ) (bs : List ℕ) (σ τ : ℕ) (sσ : σ < 2 ^ degree m) (sτ : τ < 2 ^ degree m) where
   abbrev K : Ops

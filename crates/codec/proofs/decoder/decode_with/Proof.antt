@@ -104,7 +104,7 @@ shift-powers-requires c κs =
     let here = then2 .before .before .before in
     let begin = start (at here) in
     let u = begin .pre .0 in
-    (u .sized, u .irreducible, u .shift, omega (arith, u .high), done .read-coefficients .ensures .0, done .read-coefficients .kept .1 .0 ∙ begin .pre .1 .eighth)
+    (u .sized, u .irreducible, omega (arith, u .shift), omega (arith, u .high), done .read-coefficients .ensures .0, done .read-coefficients .kept .1 .0 ∙ begin .pre .1 .eighth)
 
 same-length : tie.Need-same-length
 same-length c = search needs

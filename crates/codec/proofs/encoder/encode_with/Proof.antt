@@ -79,7 +79,7 @@ shift-powers-requires c κs =
     let u = start (at here) .pre .0 in (
       u .sized,
       u .irreducible,
-      u .shift,
+      omega (arith, u .shift),
       omega (arith, u .high),
       subst (Below (2 ^ degree (start (at here) .args .s .field .modulus))) (sym (front-is here)) (symbols-given here),
       ap length (front-is here) ∙ size-is (at here),

@@ -178,7 +178,7 @@ module _ (t : ℕ) (c : translate-lts.After-slice-known3 (claims t) (translate-a
   abbrev done : translate-lts.After-translate2 (claims t) (translate-at t) translate.Post
   done = c .before .before
 
-  inside : m t (here t done) - 1 < 16
+  inside : m t (here t done) < 16
   inside = omega (arith, shifting t (here t done) .few)
 
 translate-mul-c : (t : ℕ) → translate-lts.Need-mul-c (claims t) (translate-at t) translate.Post
@@ -194,7 +194,7 @@ translate-add-high-requires t c κs =
     let g = shifting t h in
     let q : ℕ = start t h .args .f .modulus in
     let few : n t h ≤ maxWord / 2 = omega (arith, n-is t h, pow-mono {i = m t h - 1} {j = maxDim - 1} (omega (arith, g .few))) in (
-      (g .sized, g .irreducible, g .zeros, All-at (λ (x : ℕ). x < 2 ^ degree q) (start t h .args .squares .now) 0 (g .below) (pow-pos (degree q)) (m t h - 1), back-below t at),
+      (g .sized, g .irreducible, g .zeros, All-at (λ (x : ℕ). x < 2 ^ degree q) (start t h .args .squares .now) 0 (g .below) (pow-pos (degree q)) _, back-below t at),
       (omega (arith, length-back t at), omega (arith, length-back t at, few)),
     )
 

@@ -35,7 +35,9 @@ y-symbol c =
     (squared-below (c .before .args .f .modulus) (c .before .pre .1) (c .before .args .x) (c .before .pre .2) (c .loop .j))
 
 mul-requires : tie.Need-mul-requires Inv-loop μ-loop
-mul-requires c κs = (c .before .before .pre .0, y-symbol (c .before), y-symbol (c .before))
+mul-requires c κs =
+    let s = c .before .before in
+    let y = y-symbol (c .before) in (s .pre .0, omega (arith, y, s .pre .2), omega (arith, y, s .pre .2))
 
 add-j : tie.Need-add-j Inv-loop μ-loop
 add-j c = omega arith
