@@ -2,7 +2,7 @@
 use mathlib.Core.Path.{_≡_, refl, sym, ap, _∙_}
 use mathlib.Core.Logic.{_↔_}
 use mathlib.Core.List.{List, [], _∷_}
-use Prim.Native.Nat.{ℕ, _^_, _-_, _<_}
+use Prim.Native.Nat.{ℕ, suc, _^_, _-_, _<_}
 use native.Mathlib.Omega.{arith}
 use lib.ListN.{length}
 use lib.Pow.{pow-mono}
@@ -30,9 +30,12 @@ module _ (K : Ops) where
   shiftP σ [] = []
   shiftP σ (c ∷ p) = addP K (c ∷ shiftP σ p) (scaleP K σ (shiftP σ p))
 
+  length-step : (c σ : ℕ) (q : List ℕ) → length (addP K (c ∷ q) (scaleP K σ q)) ≡ suc (length q)
+  length-step c σ q = omega (arith, length-addP K (c ∷ q) (scaleP K σ q), length-scaleP K σ q)
+
   pub length-shiftP : (σ : ℕ) (p : List ℕ) → length (shiftP σ p) ≡ length p
   length-shiftP σ [] = refl
-  length-shiftP σ (c ∷ p) = omega (arith, length-addP K (c ∷ shiftP σ p) (scaleP K σ (shiftP σ p)), length-scaleP K σ (shiftP σ p), length-shiftP σ p)
+  length-shiftP σ (c ∷ p) = length-step _ σ (shiftP σ p) ∙ ap suc (length-shiftP σ p)
 
 module _ {K : Ops} (F : IsField K) where
   infixl 60 _⊕_
