@@ -15,7 +15,7 @@ use Rattle.field.specs.Symbols.{symbols}
 use Rattle.poly.specs.Poly.{eval}
 use Rattle.poly.specs.Novel.{evalX}
 use Rattle.poly.specs.Codeword.{wordOf, Codeword}
-use Rattle.poly.specs.Shift.{wordAt, word-at-back}
+use Rattle.poly.specs.Shift.{word-at-back}
 use Rattle.poly.specs.Blocks.{codeword-values}
 use Rattle.space.specs.Ready.{Ready}
 use Rattle.space.specs.Usable.{Usable, usable, ready-field, ready-basis}

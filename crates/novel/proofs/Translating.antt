@@ -2,14 +2,14 @@
 use mathlib.Core.Path.{_≡_, refl, sym, ap, ap₂, _∙_, subst}
 use mathlib.Core.Logic.{inr}
 use mathlib.Core.List.{List, [], _∷_, _++_}
-use Prim.Native.Nat.{ℕ, zero, suc, _+_, _-_, _/_, _^_, _≤_, _<_}
+use Prim.Native.Nat.{ℕ, zero, suc, _+_, _/_, _^_, _≤_, _<_}
 use native.Mathlib.Omega.{arith}
 use lib.ListN.{length, getD, take, drop, length-append, length-drop}
-use lib.Seq.{take-at, drop-at, take-all}
-use Rattle.lists.specs.All.{All, Below, IsZero, All-append}
+use lib.Seq.{drop-at, take-all}
+use Rattle.lists.specs.All.{All, Below, IsZero}
 use Rattle.lists.specs.Stretch.{Apart, stretch}
 use Rattle.field.specs.Binary.{degree, Irreducible}
-use Rattle.field.specs.Laws.{Ops, IsField, ring, ⊗-0, ⊕-0}
+use Rattle.field.specs.Laws.{Ops, IsField, ring, ⊗-0}
 use Rattle.field.specs.Product.{positive}
 use Rattle.field.specs.Products.{accumulated}
 use Rattle.field.specs.Symbols.{symbols, symbols-field}
@@ -18,7 +18,7 @@ use Rattle.field.proofs.Accumulate.{length-accumulated, accumulated-below}
 use Rattle.poly.specs.Poly.{eval}
 use Rattle.novel.specs.Sparse.{squared}
 use Rattle.novel.specs.Convert.{raised}
-use Rattle.novel.specs.Translate.{Squares, Shifting, HighAdded, Translated, TranslatedBy}
+use Rattle.novel.specs.Translate.{Shifting, HighAdded, Translated, TranslatedBy}
 use Rattle.novel.proofs.Evaluate.{raised-squared, eval-append, accumulated-eval}
 
 pub shifting-fewer : {f : Field} {none squares : List ℕ} {m : ℕ} (n : ℕ) → n ≤ m → Shifting f none squares m → Shifting f none squares n

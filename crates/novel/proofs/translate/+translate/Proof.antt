@@ -11,7 +11,7 @@ use Rattle.space.specs.Sizes.{maxDim, maxWord}
 use Rattle.lists.specs.All.{Below, All-at, All-take, All-drop, All-append}
 use Rattle.lists.specs.Overwrite.{length-lent, second-lent, both-back}
 use Rattle.field.specs.Binary.{degree}
-use Rattle.novel.specs.Translate.{Squares, Shifting, HighAdded, TranslatedBy}
+use Rattle.novel.specs.Translate.{Shifting, HighAdded, TranslatedBy}
 use Rattle.novel.proofs.Recursion.{half-power}
 use Rattle.novel.proofs.Translating.{shifting-fewer, translated-none, translated-halves}
 use borrow.Fn.Kinds.{In}
