@@ -15,6 +15,7 @@ use Rattle.field.specs.Symbols.{symbols}
 use Rattle.poly.specs.Poly.{eval}
 use Rattle.poly.specs.Novel.{evalX}
 use Rattle.poly.specs.Codeword.{wordOf, Codeword}
+use Rattle.poly.specs.Span.{elem, elem-sym}
 use Rattle.poly.specs.Shift.{word-at-back}
 use Rattle.poly.specs.Blocks.{codeword-values}
 use Rattle.space.specs.Ready.{Ready}
@@ -25,7 +26,7 @@ use Rattle.transform.proofs.BlockLaws.{eight}
 use Rattle.novel.specs.Novel.{PowersOf}
 use Rattle.novel.specs.Settings.{steps-of, inverses-of}
 use Rattle.evaluation.proofs.WordLaws.{same-word}
-use Rattle.novel.specs.Translate.{Translated}
+use Rattle.novel.specs.Shift.{Shifted}
 use Rattle.codec.specs.Words.{InBlockZero, CoefficientsOf}
 use Rattle.codec.specs.Calls.{CoefficientsAt}
 
@@ -84,5 +85,11 @@ module _ {s : Setting} (u : Usable s) (word work rest : List ℕ) (lw : length w
 -- ---- the shift
 
 -- coefficients of P(x + σ), and then those of P
-pub coefficients-at : {q : ℕ} → IsField (symbols q) → (σ : ℕ) (bs word p new : List ℕ) → Translated q σ p new → CoefficientsOf q bs word p → CoefficientsAt q bs σ word new
-coefficients-at F σ bs word p new t c = record { count = t .kept ∙ c .count; elements = t .below; word-is = c .word-is ∙ word-at-back F σ (length bs) bs p new (t .values) }
+pub coefficients-at : {q : ℕ} → IsField (symbols q) → (σ : ℕ) → symbols q .Sym σ → (bs : List ℕ) → Below (2 ^ degree q) bs → (word p new : List ℕ) → Shifted q σ p new → CoefficientsOf q bs word p
+    → CoefficientsAt q bs σ word new
+coefficients-at {q} F σ sσ bs sb word p new t c =
+    record {
+      count = t .kept ∙ c .count;
+      elements = t .below;
+      word-is = c .word-is ∙ word-at-back F σ (length bs) bs p new (λ i. t .values (symbols q ._⊕_ σ (elem (symbols q) bs i)) (F .sym-sum sσ (elem-sym F bs i sb)));
+    }

@@ -1,7 +1,7 @@
 // From a codeword to its coefficients, in a setting that passed its checks.
 use field::modulus::all_symbols;
 use novel::powers_of;
-use novel::translate::shift_powers;
+use novel::shift::shift_powers;
 use space::Setting;
 use transform::blocks::is_codeword;
 use transform::slices::copy;

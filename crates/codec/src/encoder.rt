@@ -2,7 +2,7 @@
 use evaluation::taken;
 use evaluation::write_lanes;
 use field::modulus::all_symbols;
-use novel::translate::shift_powers;
+use novel::shift::shift_powers;
 use space::Setting;
 use transform::slices::transpose;
 ghost use mathlib.Core.Path.{_≡_};

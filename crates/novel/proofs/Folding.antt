@@ -177,7 +177,7 @@ module _ (q : ℕ) (irr : Irreducible q) (table : List ℕ) where
 
   module _ (j : ℕ) (old mid new : List ℕ) (lx : length old ≡ 2 ^ j + 2 ^ j) (lead : rowOf table j j ≡ 1) (b : Below (2 ^ degree q) old) where
     -- the lower terms first: the product
-    pub expanded : Folded q table j j 0 old mid → Folded q table j j (2 ^ j / 2) mid new → Expanded q table j old new
+    pub expanded : Folded q table j j 0 old mid → Folded q table j j (2 ^ j / 2) mid new → Expanded q (valueBy q table) j old new
     expanded s t =
         record {
           kept = t .kept ∙ s .kept;
@@ -192,7 +192,7 @@ module _ (q : ℕ) (irr : Irreducible q) (table : List ℕ) where
     move a u v r e = simp (e, ring, F)
 
     -- the upper terms first: the division
-    pub divided : Folded q table j j (2 ^ j / 2) old mid → Folded q table j j 0 mid new → Expanded q table j new old
+    pub divided : Folded q table j j (2 ^ j / 2) old mid → Folded q table j j 0 mid new → Expanded q (valueBy q table) j new old
     divided s t =
         let ln : length new ≡ length old = t .kept ∙ s .kept in
         record {

@@ -3,7 +3,7 @@ pub mod Cells
 pub mod Evaluate
 pub mod Folding
 pub mod Recursion
-pub mod Translating
+pub mod Shifting
 pub mod Scaling
 pub mod Bases
 pub mod Loading

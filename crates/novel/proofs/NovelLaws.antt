@@ -1,4 +1,5 @@
 -- What the functions of `novel` leave, from what the changes of basis leave. Assumes nothing.
+use mathlib.Core.Bool.{false}
 use mathlib.Core.Path.{_≡_, refl, sym, ap, ap₂, _∙_, subst}
 use mathlib.Core.Logic.{inl}
 use mathlib.Core.List.{List, [], _∷_, _++_, zipWith}
@@ -32,7 +33,7 @@ module _ {f : Field} {m : ℕ} {steps : List ℕ} (s : Stepped f m steps) where
   abbrev F : IsField (symbols q)
   F = symbols-field q (s .irreducible)
 
-  pub tabled-of : {none t : List ℕ} → Zeros none → Sparse q steps m t → Tabled f none t m
+  pub tabled-of : {none t : List ℕ} → Zeros none → Sparse q steps m t → Tabled false f none t m
   tabled-of z t =
       record {
         sized = s .sized;
@@ -40,10 +41,10 @@ module _ {f : Field} {m : ℕ} {steps : List ℕ} (s : Stepped f m steps) where
         zeros = z;
         few = s .few;
         below = t .below;
-        lead = λ j h. t .right j j h (omega (arith, s .few)) ∙ coefficient-lead F (λ i. getD steps i 0) j;
+        lead = λ e j h. t .right j j h (omega (arith, s .few)) ∙ coefficient-lead F (λ i. getD steps i 0) j;
       }
 
-  pub changed-of : {t products powers : List ℕ} → Sparse q steps m t → Monomials q t m products powers → Changed q steps m products powers
+  pub changed-of : {t products powers : List ℕ} → Sparse q steps m t → Monomials q (valueBy q t) m products powers → Changed q steps m products powers
   changed-of {t} {products} {powers} p c =
       record {
         kept = c .kept;

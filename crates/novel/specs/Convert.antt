@@ -1,5 +1,6 @@
--- Coefficients of powers of x, and those of the products of W_j over the one bits j of a coefficient's number.
+-- Coefficients of powers of x, and those of products over the one bits j of a coefficient's number: of W_j, or of x^(2^j) plus a number.
 use mathlib.Core.Path.{_≡_}
+use mathlib.Core.Bool.{Bool, true, false}
 use mathlib.Core.List.{List}
 use Prim.Native.Nat.{ℕ, zero, suc, _+_, _*_, _/_, _^_, _≤_, _<_}
 use lib.ListN.{length, getD, take, drop}
@@ -12,7 +13,7 @@ use Rattle.field.specs.Products.{Sized}
 use Rattle.field.specs.Symbols.{symbols}
 use Rattle.field.specs.declared.Field.{Field}
 use Rattle.poly.specs.Poly.{eval}
-use Rattle.novel.specs.Sparse.{linear}
+use Rattle.novel.specs.Sparse.{squared, linear}
 
 module _ (K : Ops) where
   infixl 60 _⊕_
@@ -37,19 +38,28 @@ rowOf table j i = getD table (maxDim * j + i) 0
 abbrev pub valueBy : ℕ → List ℕ → ℕ → ℕ → ℕ
 valueBy q table j x = linear (symbols q) (rowOf table j) (suc j) x
 
+-- x^(2^j) plus entry j of the table, at x
+abbrev pub shiftedBy : ℕ → List ℕ → ℕ → ℕ → ℕ
+shiftedBy q table j x = symbols q ._⊕_ (getD table j 0) (squared (symbols q) j x)
+
+-- factor j of the products, by the table
+abbrev pub factorBy : Bool → ℕ → List ℕ → ℕ → ℕ → ℕ
+factorBy false = valueBy
+factorBy true = shiftedBy
+
 -- zeros for half of the coefficients of the longest word
 pub record Zeros (none : List ℕ) : Type 0 where
   pub zero : All IsZero none
   pub many : maxWord / 2 ≤ length none
 
 -- what the change of basis for 2^m coefficients takes
-pub record Tabled (f : Field) (none table : List ℕ) (m : ℕ) : Type 0 where
+pub record Tabled (shifted : Bool) (f : Field) (none table : List ℕ) (m : ℕ) : Type 0 where
   pub sized : Sized f
   pub irreducible : Irreducible (f .modulus)
   pub zeros : Zeros none
   pub few : m ≤ maxDim
   pub below : Below (2 ^ degree (f .modulus)) table
-  pub lead : (j : ℕ) → j < m → rowOf table j j ≡ 1
+  pub lead : shifted ≡ false → (j : ℕ) → j < m → rowOf table j j ≡ 1
 
 -- the terms of W_j with x^(2^0) to x^(2^(i-1)), x^at times the 2^j/2 coefficients at `at + 2^j`, are added
 pub record Folded (q : ℕ) (table : List ℕ) (j i at : ℕ) (old new : List ℕ) : Type 0 where
@@ -60,15 +70,15 @@ pub record Folded (q : ℕ) (table : List ℕ) (j i at : ℕ) (old new : List �
       ≡ symbols q ._⊕_ (eval (symbols q) old x)
       (raised (symbols q) at x (symbols q ._⊗_ (linear (symbols q) (rowOf table j) i x) (eval (symbols q) (stretch (2 ^ j / 2) (at + 2 ^ j) old) x)))
 
--- `whole` is low + W_j high, of the halves of `parts`
-pub record Expanded (q : ℕ) (table : List ℕ) (j : ℕ) (parts whole : List ℕ) : Type 0 where
+-- `whole` is low + g j high, of the halves of `parts`
+pub record Expanded (q : ℕ) (g : ℕ → ℕ → ℕ) (j : ℕ) (parts whole : List ℕ) : Type 0 where
   pub kept : length whole ≡ length parts
   pub below : Below (2 ^ degree q) parts × Below (2 ^ degree q) whole
   pub values : (x : ℕ) → x < 2 ^ degree q → eval (symbols q) whole x
-      ≡ symbols q ._⊕_ (eval (symbols q) (take (2 ^ j) parts) x) (symbols q ._⊗_ (valueBy q table j x) (eval (symbols q) (drop (2 ^ j) parts) x))
+      ≡ symbols q ._⊕_ (eval (symbols q) (take (2 ^ j) parts) x) (symbols q ._⊗_ (g j x) (eval (symbols q) (drop (2 ^ j) parts) x))
 
--- `powers` are the coefficients of powers of x of the polynomial with the 2^m coefficients `products` over the products of W_j
-pub record Monomials (q : ℕ) (table : List ℕ) (m : ℕ) (products powers : List ℕ) : Type 0 where
+-- `powers` are the coefficients of powers of x of the polynomial with the 2^m coefficients `products` over the products of g j
+pub record Monomials (q : ℕ) (g : ℕ → ℕ → ℕ) (m : ℕ) (products powers : List ℕ) : Type 0 where
   pub kept : length powers ≡ length products
   pub below : Below (2 ^ degree q) products × Below (2 ^ degree q) powers
-  pub values : (x : ℕ) → x < 2 ^ degree q → eval (symbols q) powers x ≡ evalBy (symbols q) (λ j. valueBy q table j x) m products
+  pub values : (x : ℕ) → x < 2 ^ degree q → eval (symbols q) powers x ≡ evalBy (symbols q) (λ j. g j x) m products

@@ -3,5 +3,5 @@ pub mod Sparse
 pub mod Convert
 pub mod Scales
 pub mod Novel
-pub mod Translate
+pub mod Shift
 pub mod Settings

@@ -1,10 +1,12 @@
 // Between coefficients of powers of x and those of the products of W_j over the one bits j of a
 // coefficient's number. W_j has the powers x^(2^i) alone, i at most j, so a product with it or a
-// division by it takes j additions of a multiple.
+// division by it takes j additions of a multiple. To powers also from the products of x^(2^j) plus a
+// number, which are those of a shift: one addition.
 use field::Field;
 use space::MAX;
 use space::MAX_WORD;
 ghost use mathlib.Core.Path.{_≡_};
+ghost use mathlib.Core.Bool.{true, false};
 ghost use Prim.Native.Nat.{_+_, _/_, _^_, _≤_, _<_};
 ghost use lib.ListN.{length};
 ghost use Rattle.space.specs.Sizes.{maxDim};
@@ -12,11 +14,11 @@ ghost use Rattle.lists.specs.All.{Below};
 ghost use Rattle.field.specs.Binary.{degree, Irreducible};
 ghost use Rattle.field.specs.Products.{Sized};
 ghost use Rattle.novel.specs.Sparse.{Sparse, zeroCells};
-ghost use Rattle.novel.specs.Convert.{Tabled, Zeros, Folded, Expanded, Monomials};
+ghost use Rattle.novel.specs.Convert.{valueBy, shiftedBy, factorBy, Tabled, Zeros, Folded, Expanded, Monomials};
 ghost use Rattle.novel.specs.Scales.{Scales, zeroRoom};
 
 // The table of the subspace polynomials W_0 to W_MAX: a row of MAX places for each.
-const TABLE: usize = MAX * (MAX + 1);
+pub const TABLE: usize = MAX * (MAX + 1);
 
 // From a place of the table to the next place of the next row.
 const DIAGONAL: usize = MAX + 1;
@@ -36,7 +38,7 @@ pub fn power(j: usize) -> usize
     1usize << j
 }
 
-fn cells() -> [u16; TABLE]
+pub fn cells() -> [u16; TABLE]
     ensures { λ r. ⌜ r ≡ zeroCells ⌝ }
 {
     [0u16; TABLE]
@@ -64,7 +66,7 @@ pub fn table(f: Field, steps: &[u16; 16], count: usize) -> [u16; TABLE]
 
 // Adds (W_j - x^(2^j)) * x^at times the 2^j / 2 coefficients at `at + 2^j`.
 fn fold(f: Field, none: &[u16], table: &[u16; TABLE], j: usize, at: usize, values: &mut [u16])
-    requires { ⌜ Tabled f (now none) (now table) (j + 1) × Below (2 ^ degree (f .modulus)) (now values) × (at + 2 ^ j + 2 ^ j / 2 ≤ length (now values)) ⌝ }
+    requires { ⌜ Tabled false f (now none) (now table) (j + 1) × Below (2 ^ degree (f .modulus)) (now values) × (at + 2 ^ j + 2 ^ j / 2 ≤ length (now values)) ⌝ }
     ensures { λ _. ⌜ Folded (f .modulus) (now (table .entry)) j j at (now (values .entry)) (now (values .exit)) ⌝ }
 {
     let half = power(j);
@@ -85,8 +87,8 @@ fn fold(f: Field, none: &[u16], table: &[u16; TABLE], j: usize, at: usize, value
 
 // Low + W_j * high, of the two halves of 2^(j+1) coefficients.
 fn expand(f: Field, none: &[u16], table: &[u16; TABLE], j: usize, values: &mut [u16])
-    requires { ⌜ Tabled f (now none) (now table) (j + 1) × Below (2 ^ degree (f .modulus)) (now values) × (length (now values) ≡ 2 ^ j + 2 ^ j) ⌝ }
-    ensures { λ _. ⌜ Expanded (f .modulus) (now (table .entry)) j (now (values .entry)) (now (values .exit)) ⌝ }
+    requires { ⌜ Tabled false f (now none) (now table) (j + 1) × Below (2 ^ degree (f .modulus)) (now values) × (length (now values) ≡ 2 ^ j + 2 ^ j) ⌝ }
+    ensures { λ _. ⌜ Expanded (f .modulus) (valueBy (f .modulus) (now (table .entry))) j (now (values .entry)) (now (values .exit)) ⌝ }
 {
     fold(f, none, table, j, 0, values);
     fold(f, none, table, j, power(j) / 2, values);
@@ -94,32 +96,53 @@ fn expand(f: Field, none: &[u16], table: &[u16; TABLE], j: usize, values: &mut [
 
 // Division by W_j: the remainder becomes low, the quotient high.
 fn divide(f: Field, none: &[u16], table: &[u16; TABLE], j: usize, values: &mut [u16])
-    requires { ⌜ Tabled f (now none) (now table) (j + 1) × Below (2 ^ degree (f .modulus)) (now values) × (length (now values) ≡ 2 ^ j + 2 ^ j) ⌝ }
-    ensures { λ _. ⌜ Expanded (f .modulus) (now (table .entry)) j (now (values .exit)) (now (values .entry)) ⌝ }
+    requires { ⌜ Tabled false f (now none) (now table) (j + 1) × Below (2 ^ degree (f .modulus)) (now values) × (length (now values) ≡ 2 ^ j + 2 ^ j) ⌝ }
+    ensures { λ _. ⌜ Expanded (f .modulus) (valueBy (f .modulus) (now (table .entry))) j (now (values .exit)) (now (values .entry)) ⌝ }
 {
     fold(f, none, table, j, power(j) / 2, values);
     fold(f, none, table, j, 0, values);
 }
 
-// To coefficients of powers of x, from those of products of W_j.
-pub fn to_monomials(f: Field, none: &[u16], table: &[u16; TABLE], m: usize, values: &mut [u16])
-    requires { ⌜ Tabled f (now none) (now table) m × Below (2 ^ degree (f .modulus)) (now values) × (length (now values) ≡ 2 ^ m) ⌝ }
-    ensures { λ _. ⌜ Monomials (f .modulus) (now (table .entry)) m (now (values .entry)) (now (values .exit)) ⌝ }
+// Low + (x^(2^j) + c) * high, of the two halves of 2^(j+1) coefficients, c being entry j of the table.
+fn add_high(f: Field, none: &[u16], table: &[u16; TABLE], j: usize, values: &mut [u16])
+    requires { ⌜ Tabled true f (now none) (now table) (j + 1) × Below (2 ^ degree (f .modulus)) (now values) × (length (now values) ≡ 2 ^ j + 2 ^ j) ⌝ }
+    ensures { λ _. ⌜ Expanded (f .modulus) (shiftedBy (f .modulus) (now (table .entry))) j (now (values .entry)) (now (values .exit)) ⌝ }
+{
+    let half = power(j);
+    field::products::add_products(f, &none[..half], table[j], half, 0, values);
+}
+
+// To coefficients of powers of x, from those of products of W_j; or, shifted, from those of products of
+// x^(2^j) plus entry j of the table.
+pub fn to_monomials(
+    f: Field,
+    none: &[u16],
+    table: &[u16; TABLE],
+    shifted: bool,
+    m: usize,
+    values: &mut [u16],
+)
+    requires { ⌜ Tabled shifted f (now none) (now table) m × Below (2 ^ degree (f .modulus)) (now values) × (length (now values) ≡ 2 ^ m) ⌝ }
+    ensures { λ _. ⌜ Monomials (f .modulus) (factorBy shifted (f .modulus) (now (table .entry))) m (now (values .entry)) (now (values .exit)) ⌝ }
 {
     if m == 0 {
         return;
     }
     let j = m - 1;
     let n = values.len() / 2;
-    to_monomials(f, none, table, j, &mut values[..n]);
-    to_monomials(f, none, table, j, &mut values[n..]);
+    to_monomials(f, none, table, shifted, j, &mut values[..n]);
+    to_monomials(f, none, table, shifted, j, &mut values[n..]);
+    if shifted {
+        add_high(f, none, table, j, values);
+        return;
+    }
     expand(f, none, table, j, values);
 }
 
 // From coefficients of powers of x, to those of products of W_j.
 pub fn from_monomials(f: Field, none: &[u16], table: &[u16; TABLE], m: usize, values: &mut [u16])
-    requires { ⌜ Tabled f (now none) (now table) m × Below (2 ^ degree (f .modulus)) (now values) × (length (now values) ≡ 2 ^ m) ⌝ }
-    ensures { λ _. ⌜ Monomials (f .modulus) (now (table .entry)) m (now (values .exit)) (now (values .entry)) ⌝ }
+    requires { ⌜ Tabled false f (now none) (now table) m × Below (2 ^ degree (f .modulus)) (now values) × (length (now values) ≡ 2 ^ m) ⌝ }
+    ensures { λ _. ⌜ Monomials (f .modulus) (valueBy (f .modulus) (now (table .entry))) m (now (values .exit)) (now (values .entry)) ⌝ }
 {
     if m == 0 {
         return;

@@ -1,7 +1,7 @@
 // Between coefficients of powers of x and those over the novel basis: the products of W_j, each over
 // its step.
 pub mod convert;
-pub mod translate;
+pub mod shift;
 
 use convert::from_monomials;
 use convert::none;
@@ -39,7 +39,7 @@ fn to_powers(f: Field, steps: &[u16; 16], m: usize, values: &mut [u16])
 {
     let zeros = none();
     let t = table(f, steps, m);
-    to_monomials(f, &zeros, &t, m, values);
+    to_monomials(f, &zeros, &t, false, m, values);
 }
 
 // Adds the first 2^m numbers, times the products of the factors over the one bits of their place, to

@@ -63,20 +63,20 @@ module _ {K : Ops} (F : IsField K) where
   shift-back σ x = simp (sums, F)
 
   -- r has the values of P(x + σ): its word is that of P at the shift
-  pub word-at-values : (σ k : ℕ) (b p r : List ℕ) → ((x : ℕ) → eval K r x ≡ eval K p (σ ⊕ x)) → wordOf K k b r ≡ wordAt K σ k b p
-  word-at-values σ k b p r e = tab-ext (2 ^ k) _ _ (λ i h. e (elem K b i))
+  pub word-at-values : (σ k : ℕ) (b p r : List ℕ) → ((i : ℕ) → eval K r (elem K b i) ≡ eval K p (σ ⊕ elem K b i)) → wordOf K k b r ≡ wordAt K σ k b p
+  word-at-values σ k b p r e = tab-ext (2 ^ k) _ _ (λ i h. e i)
 
   -- and its word at the shift is that of P
-  pub word-at-back : (σ k : ℕ) (b p r : List ℕ) → ((x : ℕ) → eval K r x ≡ eval K p (σ ⊕ x)) → wordOf K k b p ≡ wordAt K σ k b r
-  word-at-back σ k b p r e = tab-ext (2 ^ k) _ _ (λ i h. sym (e (σ ⊕ elem K b i) ∙ ap (eval K p) (shift-back σ (elem K b i))))
+  pub word-at-back : (σ k : ℕ) (b p r : List ℕ) → ((i : ℕ) → eval K r (σ ⊕ elem K b i) ≡ eval K p (σ ⊕ (σ ⊕ elem K b i))) → wordOf K k b p ≡ wordAt K σ k b r
+  word-at-back σ k b p r e = tab-ext (2 ^ k) _ _ (λ i h. sym (e i ∙ ap (eval K p) (shift-back σ (elem K b i))))
 
   -- the word of P at the shift is that of P(x + σ)
   pub word-shift : (σ k : ℕ) (b p : List ℕ) → wordAt K σ k b p ≡ wordOf K k b (shiftP K σ p)
-  word-shift σ k b p = sym (word-at-values σ k b p (shiftP K σ p) (eval-shiftP σ p))
+  word-shift σ k b p = sym (word-at-values σ k b p (shiftP K σ p) (λ i. eval-shiftP σ p (elem K b i)))
 
   -- and the word of P is that of P(x + σ) at the shift
   pub word-unshift : (σ k : ℕ) (b p : List ℕ) → wordOf K k b p ≡ wordAt K σ k b (shiftP K σ p)
-  word-unshift σ k b p = word-at-back σ k b p (shiftP K σ p) (eval-shiftP σ p)
+  word-unshift σ k b p = word-at-back σ k b p (shiftP K σ p) (λ i. eval-shiftP σ p (σ ⊕ elem K b i))
 
   -- the shift 0
   pub word-at-zero : (k : ℕ) (b p : List ℕ) → wordAt K 0 k b p ≡ wordOf K k b p

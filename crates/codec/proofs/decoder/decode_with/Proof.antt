@@ -121,7 +121,7 @@ returns c =
     inl (
       refl,
       symbols (then here),
-      λ bs r. coefficients-at (ready-field r) (begin .args .s .shift) bs (word (at here)) (done .read-coefficients .last .1 .0) (c .before .before .shift-powers .last .1 .1 .1 .0)
+      λ bs r. coefficients-at (ready-field r) (begin .args .s .shift) (r .sound .shift) bs (r .sound .basis .elements) (word (at here)) (done .read-coefficients .last .1 .0) (c .before .before .shift-powers .last .1 .1 .1 .0)
           (c .before .before .shift-powers .ensures)
           (done .read-coefficients .ensures .1 bs r (word (at here))
           (tested-zero (begin .pre .0) (word (at here)) (work here) (rest here) (length-work here ∙ n-is (at here)) (here .is-codeword .ensures) r (symbols (then here)) (n-is (at here)) (then2 .if2 .taken))),

@@ -14,10 +14,11 @@ use Rattle.lists.specs.Stretch.{stretch}
 use Rattle.field.specs.Binary.{degree}
 use Rattle.field.specs.Symbols.{symbols}
 use Rattle.poly.specs.Codeword.{wordOf}
+use Rattle.poly.specs.Span.{elem, elem-sym}
 use Rattle.poly.specs.Shift.{word-at-values}
 use Rattle.space.specs.Sizes.{maxDim, maxCoefficients}
 use Rattle.space.specs.Usable.{ready-field}
-use Rattle.novel.specs.Translate.{Translated}
+use Rattle.novel.specs.Shift.{Shifted}
 use Rattle.codec.proofs.encoder.encode_with.Statement.{statement}
 use Rattle.codec.proofs.encoder.encode_with.Tie as tie
 
@@ -96,31 +97,31 @@ module _ (c : tie.After-shift-powers) where
   abbrev new : List ℕ
   new = c .shift-powers .last .1 .1 .1 .0
 
-  translated : Translated (start (at took) .args .s .field .modulus) (start (at took) .args .s .shift) (p (at took)) new
-  translated = subst (λ (l : List ℕ). Translated (start (at took) .args .s .field .modulus) (start (at took) .args .s .shift) l new) (front-is took) (c .shift-powers .ensures)
+  shifted : Shifted (start (at took) .args .s .field .modulus) (start (at took) .args .s .shift) (p (at took)) new
+  shifted = subst (λ (l : List ℕ). Shifted (start (at took) .args .s .field .modulus) (start (at took) .args .s .shift) l new) (front-is took) (c .shift-powers .ensures)
 
   abbrev back : List ℕ
   back = new ++ drop n (room took)
 
   length-back : length back ≡ maxCoefficients
-  length-back = length-append new (drop n (room took)) ∙ omega (arith, translated .kept, length-drop n (room took), took .taken .ensures .count, fits (at took))
+  length-back = length-append new (drop n (room took)) ∙ omega (arith, shifted .kept, length-drop n (room took), took .taken .ensures .count, fits (at took))
 
   back-front : take n back ≡ new
-  back-front = take-at new (drop n (room took)) n (translated .kept)
+  back-front = take-at new (drop n (room took)) n (shifted .kept)
 
 array-share-prefix-moved : tie.Need-array-share-prefix-moved
 array-share-prefix-moved c = omega (arith, length-back (c .before), fits (at (took (c .before))))
 
 slice-aggregate-write-word : tie.Need-slice-aggregate-write-word
-slice-aggregate-write-word c = let here = c .before .before in sym (ap length (back-front here) ∙ translated here .kept)
+slice-aggregate-write-word c = let here = c .before .before in sym (ap length (back-front here) ∙ shifted here .kept)
 
 write-word-requires : tie.Need-write-word-requires
 write-word-requires c κs =
     let here = c .before .before .before .before in
     let s = start (at (took here)) in (
       s .pre .0,
-      record { eighth = ap length (back-front here) ∙ translated here .kept ∙ size-is (at (took here)); whole = s .pre .1 .whole; room = s .pre .1 .room },
-      subst (Below (2 ^ degree (s .args .s .field .modulus))) (sym (back-front here)) (translated here .below),
+      record { eighth = ap length (back-front here) ∙ shifted here .kept ∙ size-is (at (took here)); whole = s .pre .1 .whole; room = s .pre .1 .room },
+      subst (Below (2 ^ degree (s .args .s .field .modulus))) (sym (back-front here)) (shifted here .below),
     )
 
 same-length : tie.Need-same-length
@@ -139,7 +140,8 @@ returns c =
       symbols-given (took here),
       λ bs r. wrote .write-word .ensures bs r
           ∙ ap (wordOf (symbols (s .args .s .field .modulus)) (length bs) bs) (back-front here)
-          ∙ word-at-values (ready-field r) (s .args .s .shift) (length bs) bs (p (at (took here))) (new here) (translated here .values),
+          ∙ word-at-values (ready-field r) (s .args .s .shift) (length bs) bs (p (at (took here))) (new here)
+          (λ i. shifted here .values (elem (symbols (s .args .s .field .modulus)) bs i) (elem-sym (ready-field r) bs i (r .sound .basis .elements))),
     )
 
 returns-2 : tie.Need-returns-2

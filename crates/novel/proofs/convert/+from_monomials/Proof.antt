@@ -1,4 +1,5 @@
 -- `novel::convert::from_monomials` meets its contract: the proof of the cycle of calls {from_monomials}. The measure is m. Assumes nothing.
+use mathlib.Core.Bool.{false}
 use mathlib.Core.Path.{_≡_, sym, ap, ap₂, subst, _∙_}
 use mathlib.Core.List.{List, _++_}
 use Prim.Native.Nat.{ℕ, suc, _+_, _-_, _/_, _^_, _<_}
@@ -9,7 +10,7 @@ use borrow.Rule.Slice.PartMut.{putMid}
 use Rattle.lists.specs.All.{Below, All-take, All-drop}
 use Rattle.lists.specs.Overwrite.{length-lent, second-lent, both-back}
 use Rattle.field.specs.Binary.{degree}
-use Rattle.novel.specs.Convert.{Tabled, Expanded, Monomials}
+use Rattle.novel.specs.Convert.{valueBy, Tabled, Expanded, Monomials}
 use Rattle.novel.proofs.Recursion.{tabled-fewer, half-power, monomials-none, monomials-halves}
 use borrow.Fn.Kinds.{In}
 use borrow.Fn.PlainCycle.{Measures, is, falls, and}
@@ -46,7 +47,7 @@ from-monomials-returns : (t : ℕ) → from-monomials-lts.Need-returns (claims t
 from-monomials-returns t c =
     let start = c .before .before .before in
     let a = start .args in
-    monomials-none (a .f .modulus) (start .pre .1 .0 .irreducible) (a .table .now) (a .m) (a .values .now) (c .if1 .taken) (start .pre .1 .2) (start .pre .1 .1)
+    monomials-none (a .f .modulus) (start .pre .1 .0 .irreducible) (valueBy (a .f .modulus) (a .table .now)) (a .m) (a .values .now) (c .if1 .taken) (start .pre .1 .2) (start .pre .1 .1)
 
 -- ---- past the test: half of the slice is 2^(m - 1) coefficients
 module _ (t : ℕ) (c : from-monomials-lts.Else1 (claims t) (from-monomials-at t) from-monomials.Post) where
@@ -62,7 +63,7 @@ module _ (t : ℕ) (c : from-monomials-lts.Else1 (claims t) (from-monomials-at t
   abbrev n : ℕ
   n = length values / 2
 
-  tabled : Tabled (start .args .f) (start .args .none .now) (start .args .table .now) m
+  tabled : Tabled false (start .args .f) (start .args .none .now) (start .args .table .now) m
   tabled = start .pre .1 .0
 
   n-is : n ≡ 2 ^ (m - 1)
@@ -205,14 +206,14 @@ from-monomials-returns-2 t c =
     let h = other t d in
     let s = start t h in
     let a = s .args in
-    subst (λ (xs : List ℕ). Monomials (a .f .modulus) (a .table .now) (a .m) xs (a .values .now)) (sym (back-is t at))
-    (monomials-halves (a .f .modulus) (s .pre .1 .0 .irreducible) (a .table .now) (m t h - 1) (m t h) (first t one) (second t at) (take (n t h) (parts t d)) (drop (n t h) (parts t d)) (a .values .now)
+    subst (λ (xs : List ℕ). Monomials (a .f .modulus) (valueBy (a .f .modulus) (a .table .now)) (a .m) xs (a .values .now)) (sym (back-is t at))
+    (monomials-halves (a .f .modulus) (s .pre .1 .0 .irreducible) (valueBy (a .f .modulus) (a .table .now)) (m t h - 1) (m t h) (first t one) (second t at) (take (n t h) (parts t d)) (drop (n t h) (parts t d)) (a .values .now)
     (next t h)
     (length-first t one ∙ n-is t h)
     (length-second t at ∙ n-is t h)
     (one .from-monomials .ensures)
-    (subst (λ (xs : List ℕ). Monomials (a .f .modulus) (a .table .now) (m t h - 1) (second t at) xs) (second-arg-is t one) (at .from-monomials2 .ensures))
-    (subst (λ (xs : List ℕ). Expanded (a .f .modulus) (a .table .now) (m t h - 1) xs (a .values .now)) (sym (take-append-drop (n t h) (parts t d))) (d .divide .ensures)))
+    (subst (λ (xs : List ℕ). Monomials (a .f .modulus) (valueBy (a .f .modulus) (a .table .now)) (m t h - 1) (second t at) xs) (second-arg-is t one) (at .from-monomials2 .ensures))
+    (subst (λ (xs : List ℕ). Expanded (a .f .modulus) (valueBy (a .f .modulus) (a .table .now)) (m t h - 1) xs (a .values .now)) (sym (take-append-drop (n t h) (parts t d))) (d .divide .ensures)))
 
 pub +from-monomials-spec : {M : Type 1} → statement M
 +from-monomials-spec = close μ-from-monomials λ t. from-monomials-lts.spec (claims t) (from-monomials-at t)

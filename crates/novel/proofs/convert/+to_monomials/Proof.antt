@@ -1,4 +1,5 @@
 -- `novel::convert::to_monomials` meets its contract: the proof of the cycle of calls {to_monomials}. The measure is m. Assumes nothing.
+use mathlib.Core.Bool.{Bool}
 use mathlib.Core.Path.{_≡_, sym, ap, ap₂, subst, _∙_}
 use mathlib.Core.List.{List, _++_}
 use Prim.Native.Nat.{ℕ, suc, _+_, _-_, _/_, _^_, _<_}
@@ -9,19 +10,20 @@ use borrow.Rule.Slice.PartMut.{putMid}
 use Rattle.lists.specs.All.{Below, All-take, All-drop, All-append}
 use Rattle.lists.specs.Overwrite.{length-lent, second-lent, both-back}
 use Rattle.field.specs.Binary.{degree}
-use Rattle.novel.specs.Convert.{Tabled, Expanded, Monomials}
+use Rattle.novel.specs.Convert.{factorBy, Tabled, Expanded, Monomials}
 use Rattle.novel.proofs.Recursion.{tabled-fewer, half-power, monomials-none, monomials-halves}
 use borrow.Fn.Kinds.{In}
 use borrow.Fn.PlainCycle.{Measures, is, falls, and}
 use Rattle.novel.proofs.convert.to_monomials.Reads as to-monomials
 use Rattle.novel.proofs.convert.to_monomials.Kinds as to-monomials-kinds
 use Rattle.novel.proofs.convert.+to_monomials.Lts-to_monomials as to-monomials-lts
+use Rattle.novel.proofs.convert.add_high.Reads as add-high-reads
 use Rattle.novel.proofs.convert.expand.Reads as expand-reads
 use Rattle.novel.proofs.convert.+to_monomials.{statement}
 use Rattle.novel.proofs.convert.+to_monomials.Tie.{close}
 
 abbrev μ-to-monomials : Measures 3 to-monomials-kinds.ps ℕ
-μ-to-monomials κs a = a .1 .1 .1 .0
+μ-to-monomials κs a = a .1 .1 .1 .1 .0
 
 abbrev to-monomials-at : ℕ → In 3 to-monomials-kinds.ps
 to-monomials-at t =
@@ -36,13 +38,13 @@ to-monomials-below t =
     to-monomials.Pre
 
 abbrev claims : ℕ → to-monomials-lts.Claims
-claims t = (to-monomials-below t, to-monomials.Post, expand-reads.Asked, expand-reads.Learnt)
+claims t = (to-monomials-below t, to-monomials.Post, add-high-reads.Asked, add-high-reads.Learnt, expand-reads.Asked, expand-reads.Learnt)
 
 to-monomials-returns : (t : ℕ) → to-monomials-lts.Need-returns (claims t) (to-monomials-at t) to-monomials.Post
 to-monomials-returns t c =
     let start = c .before .before .before in
     let a = start .args in
-    monomials-none (a .f .modulus) (start .pre .1 .0 .irreducible) (a .table .now) (a .m) (a .values .now) (c .if1 .taken) (start .pre .1 .2) (start .pre .1 .1)
+    monomials-none (a .f .modulus) (start .pre .1 .0 .irreducible) (factorBy (a .shifted) (a .f .modulus) (a .table .now)) (a .m) (a .values .now) (c .if1 .taken) (start .pre .1 .2) (start .pre .1 .1)
 
 -- ---- past the test: half of the slice is 2^(m - 1) coefficients
 module _ (t : ℕ) (c : to-monomials-lts.Else1 (claims t) (to-monomials-at t) to-monomials.Post) where
@@ -58,8 +60,11 @@ module _ (t : ℕ) (c : to-monomials-lts.Else1 (claims t) (to-monomials-at t) to
   abbrev n : ℕ
   n = length values / 2
 
-  tabled : Tabled (start .args .f) (start .args .none .now) (start .args .table .now) m
+  tabled : Tabled (start .args .shifted) (start .args .f) (start .args .none .now) (start .args .table .now) m
   tabled = start .pre .1 .0
+
+  abbrev factor : ℕ → ℕ → ℕ
+  factor = factorBy (start .args .shifted) (start .args .f .modulus) (start .args .table .now)
 
   below : Below (2 ^ degree (start .args .f .modulus)) values
   below = start .pre .1 .1
@@ -99,10 +104,10 @@ module _ (t : ℕ) (c : to-monomials-lts.After-to-monomials (claims t) (to-monom
   other = c .before .before
 
   abbrev first : List ℕ
-  first = c .to-monomials .last .1 .1 .1 .1 .0
+  first = c .to-monomials .last .1 .1 .1 .1 .1 .0
 
   length-first : length first ≡ n t other
-  length-first = c .to-monomials .kept .1 .1 .1 .1 .0 ∙ length-take-le (n t other) (values t other) (omega (arith, two t other))
+  length-first = c .to-monomials .kept .1 .1 .1 .1 .1 .0 ∙ length-take-le (n t other) (values t other) (omega (arith, two t other))
 
   length-joined : length (first ++ drop (n t other) (values t other)) ≡ n t other + n t other
   length-joined = length-lent (n t other) (values t other) first length-first (two t other)
@@ -151,10 +156,10 @@ module _ (t : ℕ) (c : to-monomials-lts.After-to-monomials2 (claims t) (to-mono
   here = other t at-first
 
   abbrev second : List ℕ
-  second = c .to-monomials2 .last .1 .1 .1 .1 .0
+  second = c .to-monomials2 .last .1 .1 .1 .1 .1 .0
 
   length-second : length second ≡ n t here
-  length-second = c .to-monomials2 .kept .1 .1 .1 .1 .0 ∙ length-second-arg t at-first
+  length-second = c .to-monomials2 .kept .1 .1 .1 .1 .1 .0 ∙ length-second-arg t at-first
 
   abbrev back : List ℕ
   back = putMid (n t here) (length (first t at-first ++ drop (n t here) (values t here)) - n t here) (first t at-first ++ drop (n t here) (values t here)) second
@@ -170,34 +175,66 @@ module _ (t : ℕ) (c : to-monomials-lts.After-to-monomials2 (claims t) (to-mono
       subst (Below (2 ^ degree (start t here .args .f .modulus))) (sym back-is)
       (All-append (λ (x : ℕ). x < 2 ^ degree (start t here .args .f .modulus)) (first t at-first) second (at-first .to-monomials .ensures .below .1) (c .to-monomials2 .ensures .below .1))
 
-to-monomials-expand-requires : (t : ℕ) → to-monomials-lts.Need-expand-requires (claims t) (to-monomials-at t) to-monomials.Post
-to-monomials-expand-requires t c κs =
-    let at = c .before .before .before in (
-      tabled-fewer (m t (here t at) - 1 + 1) (omega (arith, next t (here t at))) (tabled t (here t at)),
-      back-below t at,
-      length-back t at ∙ ap₂ _+_ (n-is t (here t at)) (n-is t (here t at)),
-    )
+  length-level : length back ≡ 2 ^ (m t here - 1) + 2 ^ (m t here - 1)
+  length-level = length-back ∙ ap₂ _+_ (n-is t here) (n-is t here)
+
+  tabled-level : Tabled (start t here .args .shifted) (start t here .args .f) (start t here .args .none .now) (start t here .args .table .now) (m t here - 1 + 1)
+  tabled-level = tabled-fewer (m t here - 1 + 1) (omega (arith, next t here)) (tabled t here)
+
+  -- and both halves are joined
+  joined : (new : List ℕ) → Expanded (start t here .args .f .modulus) (factor t here) (m t here - 1) back new → Monomials (start t here .args .f .modulus) (factor t here) (m t here) (values t here) new
+  joined new e =
+      let q : ℕ = start t here .args .f .modulus in
+      subst (λ (xs : List ℕ). Monomials q (factor t here) (m t here) xs new) (take-append-drop (n t here) (values t here))
+      (monomials-halves q (tabled t here .irreducible) (factor t here) (m t here - 1) (m t here) (take (n t here) (values t here)) (drop (n t here) (values t here)) (first t at-first) second new
+      (next t here)
+      (length-take-le (n t here) (values t here) (omega (arith, two t here)) ∙ n-is t here)
+      (length-drop (n t here) (values t here) ∙ omega (arith, two t here, n-is t here))
+      (at-first .to-monomials .ensures)
+      (subst (λ (xs : List ℕ). Monomials q (factor t here) (m t here - 1) xs second) (second-arg-is t at-first) (c .to-monomials2 .ensures))
+      (subst (λ (xs : List ℕ). Expanded q (factor t here) (m t here - 1) xs new) back-is e))
+
+-- ---- with x^(2^j) plus a number
+
+to-monomials-add-high-requires : (t : ℕ) → to-monomials-lts.Need-add-high-requires (claims t) (to-monomials-at t) to-monomials.Post
+to-monomials-add-high-requires t c κs =
+    let at = c .before .before .before .before in
+    let a = start t (here t at) .args in
+    (subst (λ (b : Bool). Tabled b (a .f) (a .none .now) (a .table .now) (m t (here t at) - 1 + 1)) (c .before .if2 .taken) (tabled-level t at), back-below t at, length-level t at)
 
 to-monomials-same-length : (t : ℕ) → to-monomials-lts.Need-same-length (claims t) (to-monomials-at t) to-monomials.Post
 to-monomials-same-length t c =
-    let at = c .before .before .before .before .before .before in
-    c .before .before .expand .kept .1 .1 .1 .1 .0 ∙ length-back t at ∙ sym (two t (here t at))
+    let at = c .before .before .before .before .before .before .before in
+    c .before .before .add-high .kept .1 .1 .1 .1 .0 ∙ length-back t at ∙ sym (two t (here t at))
 
 to-monomials-returns-2 : (t : ℕ) → to-monomials-lts.Need-returns-2 (claims t) (to-monomials-at t) to-monomials.Post
 to-monomials-returns-2 t c =
-    let at = c .before .before .before .before .before .before in
-    let one = at-first t at in
-    let h = here t at in
-    let s = start t h in
-    let a = s .args in
-    subst (λ (xs : List ℕ). Monomials (a .f .modulus) (a .table .now) (a .m) xs (c .before .before .expand .last .1 .1 .1 .1 .0)) (take-append-drop (n t h) (values t h))
-    (monomials-halves (a .f .modulus) (s .pre .1 .0 .irreducible) (a .table .now) (m t h - 1) (m t h) (take (n t h) (values t h)) (drop (n t h) (values t h)) (first t one) (second t at) _
-    (next t h)
-    (length-take-le (n t h) (values t h) (omega (arith, two t h)) ∙ n-is t h)
-    (length-drop (n t h) (values t h) ∙ omega (arith, two t h, n-is t h))
-    (one .to-monomials .ensures)
-    (subst (λ (xs : List ℕ). Monomials (a .f .modulus) (a .table .now) (m t h - 1) xs (second t at)) (second-arg-is t one) (at .to-monomials2 .ensures))
-    (subst (λ (xs : List ℕ). Expanded (a .f .modulus) (a .table .now) (m t h - 1) xs (c .before .before .expand .last .1 .1 .1 .1 .0)) (back-is t at) (c .before .before .expand .ensures)))
+    let at = c .before .before .before .before .before .before .before in
+    let a = start t (here t at) .args in
+    let new : List ℕ = c .before .before .add-high .last .1 .1 .1 .1 .0 in
+    joined t at new
+    (subst (λ (b : Bool). Expanded (a .f .modulus) (factorBy b (a .f .modulus) (a .table .now)) (m t (here t at) - 1) (back t at) new) (sym (c .before .before .before .before .if2 .taken)) (c .before .before .add-high .ensures))
+
+-- ---- with W_j
+
+to-monomials-expand-requires : (t : ℕ) → to-monomials-lts.Need-expand-requires (claims t) (to-monomials-at t) to-monomials.Post
+to-monomials-expand-requires t c κs =
+    let at = c .before .before .before .before in
+    let a = start t (here t at) .args in
+    (subst (λ (b : Bool). Tabled b (a .f) (a .none .now) (a .table .now) (m t (here t at) - 1 + 1)) (c .before .if2 .left) (tabled-level t at), back-below t at, length-level t at)
+
+to-monomials-same-length-2 : (t : ℕ) → to-monomials-lts.Need-same-length-2 (claims t) (to-monomials-at t) to-monomials.Post
+to-monomials-same-length-2 t c =
+    let at = c .before .before .before .before .before .before .before in
+    c .before .before .expand .kept .1 .1 .1 .1 .0 ∙ length-back t at ∙ sym (two t (here t at))
+
+to-monomials-returns-3 : (t : ℕ) → to-monomials-lts.Need-returns-3 (claims t) (to-monomials-at t) to-monomials.Post
+to-monomials-returns-3 t c =
+    let at = c .before .before .before .before .before .before .before in
+    let a = start t (here t at) .args in
+    let new : List ℕ = c .before .before .expand .last .1 .1 .1 .1 .0 in
+    joined t at new
+    (subst (λ (b : Bool). Expanded (a .f .modulus) (factorBy b (a .f .modulus) (a .table .now)) (m t (here t at) - 1) (back t at) new) (sym (c .before .before .before .before .if2 .left)) (c .before .before .expand .ensures))
 
 pub +to-monomials-spec : {M : Type 1} → statement M
 +to-monomials-spec = close μ-to-monomials λ t. to-monomials-lts.spec (claims t) (to-monomials-at t)
@@ -212,6 +249,9 @@ pub +to-monomials-spec : {M : Type 1} → statement M
     (to-monomials-part-to-monomials-start t)
     (to-monomials-part-to-monomials-end t)
     (to-monomials-to-monomials-requires-2 t)
-    (to-monomials-expand-requires t)
+    (to-monomials-add-high-requires t)
     (to-monomials-same-length t)
     (to-monomials-returns-2 t)
+    (to-monomials-expand-requires t)
+    (to-monomials-same-length-2 t)
+    (to-monomials-returns-3 t)

@@ -1,5 +1,5 @@
 -- `novel::convert::expand` meets its contract: two folds, that of the lower coefficients first. Assumes nothing.
-use mathlib.Core.Path.{ap, subst}
+use mathlib.Core.Path.{refl, ap, subst}
 use mathlib.Core.List.{List}
 use Prim.Native.Nat.{ℕ, _/_}
 use native.Mathlib.Omega.{arith}
@@ -28,7 +28,7 @@ returns c =
     let mid : List ℕ = c .before .before .before .before .before .before .before .fold .last .1 .1 .1 .1 .1 .0 in
     let new : List ℕ = c .before .before .fold2 .last .1 .1 .1 .1 .1 .0 in
     let half = ap (λ (n : ℕ). n / 2) (c .before .before .before .before .power .ensures) in
-    expanded (a .f .modulus) (start .pre .0 .irreducible) (a .table .now) (a .j) (a .values .now) mid new (start .pre .2) (start .pre .0 .lead (a .j) (omega arith)) (start .pre .1)
+    expanded (a .f .modulus) (start .pre .0 .irreducible) (a .table .now) (a .j) (a .values .now) mid new (start .pre .2) (start .pre .0 .lead refl (a .j) (omega arith)) (start .pre .1)
     (c .before .before .before .before .before .before .before .fold .ensures)
     (subst (λ (h : ℕ). Folded (a .f .modulus) (a .table .now) (a .j) (a .j) h mid new) half (c .before .before .fold2 .ensures))
 
