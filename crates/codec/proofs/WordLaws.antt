@@ -16,7 +16,7 @@ use Rattle.poly.specs.Poly.{eval}
 use Rattle.poly.specs.Novel.{evalX}
 use Rattle.poly.specs.Codeword.{wordOf, Codeword}
 use Rattle.poly.specs.Span.{elem, elem-sym}
-use Rattle.poly.specs.Shift.{word-at-back}
+use Rattle.poly.specs.Shift.{wordAt, word-at-back, word-at-zero}
 use Rattle.poly.specs.Blocks.{codeword-values}
 use Rattle.space.specs.Ready.{Ready}
 use Rattle.space.specs.Usable.{Usable, usable, ready-field, ready-basis}
@@ -27,7 +27,7 @@ use Rattle.novel.specs.Novel.{PowersOf}
 use Rattle.novel.specs.Settings.{steps-of, inverses-of}
 use Rattle.evaluation.proofs.WordLaws.{same-word}
 use Rattle.novel.specs.Shift.{Shifted}
-use Rattle.codec.specs.Words.{InBlockZero, CoefficientsOf}
+use Rattle.codec.specs.Words.{InBlockZero}
 use Rattle.codec.specs.Calls.{CoefficientsAt}
 
 module _ {s : Setting} {bs : List ℕ} (r : Ready (s .field .modulus) bs s) where
@@ -41,11 +41,11 @@ module _ {s : Setting} {bs : List ℕ} (r : Ready (s .field .modulus) bs s) wher
   size = 2 ^ (k - 3)
 
   pub read : (word d work p : List ℕ) → InBlockZero s bs word work → d ≡ block k 0 work → (after : List ℕ) → PowersOf q (s .steps) (s .inverses) (k - 3) d after
-      → p ≡ stretch size size after → length p ≡ size → Below (2 ^ degree q) p → CoefficientsOf q bs word p
+      → p ≡ stretch size size after → length p ≡ size → Below (2 ^ degree q) p → CoefficientsAt q bs 0 word p
   read word d work p (bw, lw, cw, e0) ed after w ep lp sp =
       record { count = lp ∙ ap (λ (i : ℕ). 2 ^ (i - 3)) (r .dimension); elements = sp; word-is = from cw }
     where
-      from : Codeword (symbols q) k bs word → word ≡ wordOf (symbols q) (length bs) bs p
+      from : Codeword (symbols q) k bs word → word ≡ wordAt (symbols q) 0 (length bs) bs p
       from (p′, l′, s′, e) =
           e
           ∙ same-word (ready-field r) k bs (ready-basis r) p′ p
@@ -53,6 +53,7 @@ module _ {s : Setting} {bs : List ℕ} (r : Ready (s .field .modulus) bs s) wher
           ∙ ap (λ (l : List ℕ). evalX (symbols q) bs (k - 3) l x) (ed ∙ e0)
           ∙ codeword-values (ready-field r) k (usable r .low) bs (ready-basis r) word lw bw p′ l′ s′ e x sx))
           ∙ ap (λ (i : ℕ). wordOf (symbols q) i bs p) (r .dimension)
+          ∙ sym (word-at-zero (ready-field r) (length bs) bs p)
 
 -- ---- the codeword test
 
@@ -85,11 +86,11 @@ module _ {s : Setting} (u : Usable s) (word work rest : List ℕ) (lw : length w
 -- ---- the shift
 
 -- coefficients of P(x + σ), and then those of P
-pub coefficients-at : {q : ℕ} → IsField (symbols q) → (σ : ℕ) → symbols q .Sym σ → (bs : List ℕ) → Below (2 ^ degree q) bs → (word p new : List ℕ) → Shifted q σ p new → CoefficientsOf q bs word p
+pub coefficients-at : {q : ℕ} → IsField (symbols q) → (σ : ℕ) → symbols q .Sym σ → (bs : List ℕ) → Below (2 ^ degree q) bs → (word p new : List ℕ) → Shifted q σ p new → CoefficientsAt q bs 0 word p
     → CoefficientsAt q bs σ word new
 coefficients-at {q} F σ sσ bs sb word p new t c =
     record {
       count = t .kept ∙ c .count;
       elements = t .below;
-      word-is = c .word-is ∙ word-at-back F σ (length bs) bs p new (λ i. t .values (symbols q ._⊕_ σ (elem (symbols q) bs i)) (F .sym-sum sσ (elem-sym F bs i sb)));
+      word-is = c .word-is ∙ word-at-zero F (length bs) bs p ∙ word-at-back F σ (length bs) bs p new (λ i. t .values (symbols q ._⊕_ σ (elem (symbols q) bs i)) (F .sym-sum sσ (elem-sym F bs i sb)));
     }

@@ -4,10 +4,10 @@ use mathlib.Core.Logic.{_⊎_}
 use mathlib.Core.List.{List}
 use Prim.Native.Nat.{ℕ, _-_, _^_, _≤_}
 use lib.ListN.{length}
-use Rattle.lists.specs.All.{All, Below}
+use Rattle.lists.specs.All.{Below}
 use Rattle.field.specs.Binary.{degree}
 use Rattle.field.specs.Symbols.{symbols}
-use Rattle.poly.specs.Codeword.{wordOf, Codeword}
+use Rattle.poly.specs.Codeword.{Codeword}
 use Rattle.poly.specs.Shift.{wordAt, CodewordAt}
 use Rattle.poly.specs.Blocks.{blockCoeffs}
 use Rattle.space.specs.Ready.{Ready}
@@ -27,12 +27,6 @@ abbrev pub InBlockZero : Setting → List ℕ → List ℕ → List ℕ → Type
 InBlockZero s bs word scratch =
     Below (2 ^ degree (s .field .modulus)) word × (length word ≡ 2 ^ s .space .k) × Codeword (symbols (s .field .modulus)) (s .space .k) bs word
     × (block (s .space .k) 0 scratch ≡ blockCoeffs (symbols (s .field .modulus)) (s .space .k) bs word 0)
-
--- p is the coefficients of the codeword without a shift
-pub record CoefficientsOf (m : ℕ) (bs word p : List ℕ) : Type 0 where
-  pub count : length p ≡ 2 ^ (length bs - 3)
-  pub elements : All (symbols m .Sym) p
-  pub word-is : word ≡ wordOf (symbols m) (length bs) bs p
 
 -- the word of the coefficients; or 9, and the word as it came
 abbrev pub EncodedWith : Setting → List ℕ → List ℕ → List ℕ → ℕ → Type 0

@@ -15,14 +15,15 @@ ghost use Rattle.lists.specs.Lanes.{lane};
 ghost use Rattle.field.specs.Binary.{degree};
 ghost use Rattle.space.specs.Ready.{Ready};
 ghost use Rattle.space.specs.Usable.{Usable};
-ghost use Rattle.codec.specs.Words.{Lengths, InBlockZero, CoefficientsOf, DecodedWith};
+ghost use Rattle.codec.specs.Words.{Lengths, InBlockZero, DecodedWith};
+ghost use Rattle.codec.specs.Calls.{CoefficientsAt};
 ghost use Rattle.codec.specs.Scratch.{scratchFor};
 
-// The coefficients of a codeword without the shift, from those of its blocks over the novel basis,
+// The coefficients of a codeword at the shift 0, from those of its blocks over the novel basis,
 // which are the first lanes of the scratch.
 fn read_coefficients(s: Setting, coefficients: &mut [u16], scratch: &mut [u16])
     requires { ⌜ Usable s × (length (now coefficients) ≡ 2 ^ (s .space .k - 3)) × (scratchFor (s .space .k) ≤ length (now scratch)) × Below (2 ^ degree (s .field .modulus)) (lane 8 0 (2 ^ (s .space .k - 3)) (now scratch)) ⌝ }
-    ensures { λ _. ⌜ Below (2 ^ degree (s .field .modulus)) (now (coefficients .exit)) × ((bs : List ℕ) → Ready (s .field .modulus) bs s → (word : List ℕ) → InBlockZero s bs word (now (scratch .entry)) → CoefficientsOf (s .field .modulus) bs word (now (coefficients .exit))) ⌝ }
+    ensures { λ _. ⌜ Below (2 ^ degree (s .field .modulus)) (now (coefficients .exit)) × ((bs : List ℕ) → Ready (s .field .modulus) bs s → (word : List ℕ) → InBlockZero s bs word (now (scratch .entry)) → CoefficientsAt (s .field .modulus) bs 0 word (now (coefficients .exit))) ⌝ }
 {
     let f = s.field;
     let steps = s.steps;

@@ -42,6 +42,7 @@ use Rattle.codec.specs.declared.Outcome.{Outcome}
 use Rattle.codec.specs.declared.Outcome.the-variants.{Done, Refused}
 use Rattle.prover.specs.Calls as prover
 use Rattle.prover.specs.Calls.{proveChecks, ProofAt, ProofOf, Proven}
+use Rattle.prover.specs.Determined.{proof-shift}
 use Rattle.terms.specs.Settings.{sound-11}
 
 -- ---- check 4
@@ -69,7 +70,7 @@ module _ (m : ℕ) (bs : List ℕ) (s : Sound m bs 0) where
   codewords-at-zero = codeword-shift (sound-field s) 0 (s .shift) (length bs) bs
 
   pub proofs-at-zero : (w π : List ℕ) → ProofAt m bs 0 w π ↔ ProofOf m bs w π
-  proofs-at-zero w π = honest-shift (sound-field s) 0 (s .shift) (dim (length bs)) bs (s .basis) w π
+  proofs-at-zero w π = proof-shift s w π
 
 -- ---- two shifts
 
