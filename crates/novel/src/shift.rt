@@ -34,8 +34,8 @@ fn squares(f: Field, x: u16) -> [u16; TABLE]
 // The coefficients of P(x + shift) from those of P, 2^m of them. It is its own inverse: P(x + shift)
 // gives back P. The shift 0 changes nothing.
 //
-// Ruled out: the coefficients as they came, where the shift is not 0; the shift itself in place of its
-// power in each factor.
+// Ruled out: the coefficients as they came, where the shift is not 0; another power of the shift in a
+// factor.
 pub fn shift_powers(f: Field, shift: u16, m: usize, values: &mut [u16])
     requires { ⌜ Sized f × Irreducible (f .modulus) × (shift < 2 ^ degree (f .modulus)) × (m ≤ maxDim) × Below (2 ^ degree (f .modulus)) (now values) × (length (now values) ≡ 2 ^ m) ⌝ }
     ensures { λ _. ⌜ Shifted (f .modulus) shift (now (values .entry)) (now (values .exit)) ⌝ }
