@@ -1,7 +1,8 @@
 -- The printed sentences. Each theorem is about what the calls' contracts say: `Told m bs σ w π coin v` is the contract of
 -- verifier's `check` for its answer v on the modulus m, the basis bs, the shift σ, the word w, the proof π and the coin. Sentence 2 for the
--- other calls: Agreement.antt; what does not depend on the shift: Shifts.antt; stored files and the call from C: Files.antt; the coin counter: Counts.antt; from coefficients to a stored file:
--- Deliveries.antt. The unused bits of a coin: UnusedBits.antt. That there are sound settings and accepted pairs: Settings.antt.
+-- other calls: Agreement.antt; what does not depend on the shift: Shifts.antt; stored files and the call from C: Files.antt; the coin
+-- counter: Counts.antt; from coefficients to a stored file: Deliveries.antt. The unused bits of a coin: UnusedBits.antt. That there are
+-- sound settings and accepted pairs: Settings.antt.
 use mathlib.Core.Path.{_≡_, refl, subst}
 use mathlib.Core.Logic.{_⊎_, _↔_, inl, inr}
 use mathlib.Core.List.{List, _++_, map}
