@@ -20,7 +20,7 @@ use Rattle.novel.specs.Convert.{raised}
 module _ {K : Ops} (F : IsField K) where
   infixl 60 _⊕_
   infixl 70 _⊗_
-  open Ops K using (_⊕_, _⊗_)
+  open Ops K using (_⊕_, _⊗_, Sym)
 
   distrib-step : (x u v w : ℕ) → w ≡ u ⊕ v → x ⊗ w ≡ x ⊗ u ⊕ x ⊗ v
   distrib-step x u v w e = simp (e, ring, F)
@@ -45,6 +45,11 @@ module _ {K : Ops} (F : IsField K) where
   raised-squared (suc i) x v =
       square-step (squared K i x) v (raised K (2 ^ i) x v) (raised K (2 ^ suc i) x v) (raised-squared i x v)
       (ap (λ (k : ℕ). raised K k x v) (two-pow-succ i) ∙ raised-add (2 ^ i) (2 ^ i) x v ∙ raised-squared i x (raised K (2 ^ i) x v))
+
+  pub squared-symbol : (x : ℕ) → Sym x → (i : ℕ) → Sym (squared K i x)
+  unfolding squared
+  squared-symbol x h zero = h
+  squared-symbol x h (suc i) = F .sym-prod (squared-symbol x h i) (squared-symbol x h i)
 
   scale-step : (x c u w : ℕ) → w ≡ c ⊗ u → x ⊗ w ≡ c ⊗ (x ⊗ u)
   scale-step x c u w e = simp (e, ring, F)
@@ -73,6 +78,14 @@ module _ {K : Ops} (F : IsField K) where
   eval-parts n xs x h =
       ap (λ (l : List ℕ). eval K l x) (sym (take-append-drop n xs)) ∙ eval-append (take n xs) (drop n xs) x
       ∙ ap (λ (k : ℕ). eval K (take n xs) x ⊕ raised K k x (eval K (drop n xs) x)) (length-take-le n xs h)
+
+  -- low + x^(2^j) high
+  pub eval-halves : (j : ℕ) (xs : List ℕ) (x : ℕ) → 2 ^ j ≤ length xs → eval K xs x ≡ eval K (take (2 ^ j) xs) x ⊕ squared K j x ⊗ eval K (drop (2 ^ j) xs) x
+  eval-halves j xs x h = eval-parts (2 ^ j) xs x h ∙ ap (λ (t : ℕ). eval K (take (2 ^ j) xs) x ⊕ t) (raised-squared j x (eval K (drop (2 ^ j) xs) x))
+
+  -- and c times high
+  pub one-factor : (low c p high : ℕ) → low ⊕ p ⊗ high ⊕ c ⊗ high ≡ low ⊕ (c ⊕ p) ⊗ high
+  one-factor low c p high = simp (ring, F)
 
   -- a list with a middle part, as its parts
   three-step : (a b c w : ℕ) → w ≡ b ⊕ c → a ⊕ w ≡ a ⊕ b ⊕ c

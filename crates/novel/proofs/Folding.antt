@@ -20,7 +20,7 @@ use Rattle.field.proofs.Accumulate.{length-accumulated, accumulated-outside, ac
 use Rattle.poly.specs.Poly.{eval}
 use Rattle.novel.specs.Sparse.{squared, linear}
 use Rattle.novel.specs.Convert.{raised, rowOf, valueBy, Folded, Expanded}
-use Rattle.novel.proofs.Evaluate.{raised-sum, raised-add, raised-squared, raised-scale, raised-zero, eval-parts, accumulated-eval}
+use Rattle.novel.proofs.Evaluate.{raised-sum, raised-add, raised-squared, raised-scale, raised-zero, squared-symbol, eval-parts, eval-halves, one-factor, accumulated-eval}
 
 -- stretches of lists that are alike from a on
 pub stretch-same : (n a : ℕ) (xs ys : List ℕ) → a + n ≤ length xs → length ys ≡ length xs → ((p : ℕ) → a ≤ p → getD ys p 0 ≡ getD xs p 0) → stretch n a ys ≡ stretch n a xs
@@ -154,21 +154,12 @@ module _ (q : ℕ) (irr : Irreducible q) (table : List ℕ) where
             ∙ sym (F .distrib (term j j x) (low x) (raised K h x (high x)))
             ∙ ap (λ (t : ℕ). term j j x ⊗ t) (sym (upper (omega arith) x))
 
-    last-step : (l p v a : ℕ) → a ⊕ p ⊗ v ⊕ l ⊗ v ≡ a ⊕ (l ⊕ p) ⊗ v
-    last-step l p v a = simp (ring, F)
-
-    power-symbol : (i x : ℕ) → x < 2 ^ degree q → squared K i x < 2 ^ degree q
-    unfolding squared
-    power-symbol zero x sx = sx
-    power-symbol (suc i) x sx = F .sym-prod (power-symbol i x sx) (power-symbol i x sx)
-
     whole : (x : ℕ) → x < 2 ^ degree q → eval K xs x ⊕ term j j x ⊗ eval K (drop n xs) x ≡ eval K (take n xs) x ⊕ valueBy q table j x ⊗ eval K (drop n xs) x
     unfolding linear
     whole x sx =
-        ap (λ (t : ℕ). t ⊕ term j j x ⊗ eval K (drop n xs) x)
-        (eval-parts F n xs x (omega arith) ∙ ap (λ (t : ℕ). eval K (take n xs) x ⊕ t) (raised-squared F j x (eval K (drop n xs) x)))
-        ∙ last-step (term j j x) (squared K j x) (eval K (drop n xs) x) (eval K (take n xs) x)
-        ∙ ap (λ (t : ℕ). eval K (take n xs) x ⊕ (term j j x ⊕ t) ⊗ eval K (drop n xs) x) (sym (ap (λ (c : ℕ). c ⊗ squared K j x) lead ∙ F .one-prod (squared K j x) (power-symbol j x sx)))
+        ap (λ (t : ℕ). t ⊕ term j j x ⊗ eval K (drop n xs) x) (eval-halves F j xs x (omega arith))
+        ∙ one-factor F (eval K (take n xs) x) (term j j x) (squared K j x) (eval K (drop n xs) x)
+        ∙ ap (λ (t : ℕ). eval K (take n xs) x ⊕ (term j j x ⊕ t) ⊗ eval K (drop n xs) x) (sym (ap (λ (c : ℕ). c ⊗ squared K j x) lead ∙ F .one-prod (squared K j x) (squared-symbol F x sx j)))
 
     -- the terms that two folds add
     pub both-folds : (x : ℕ) → x < 2 ^ degree q

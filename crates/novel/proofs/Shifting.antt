@@ -21,7 +21,7 @@ use Rattle.novel.specs.Sparse.{squared}
 use Rattle.novel.specs.Convert.{raised, evalBy, shiftedBy, Expanded, Monomials}
 use Rattle.novel.specs.Shift.{Squares, Shifted}
 use Rattle.novel.proofs.Bases.{evalBy-same}
-use Rattle.novel.proofs.Evaluate.{raised-squared, eval-parts, accumulated-eval}
+use Rattle.novel.proofs.Evaluate.{eval-halves, one-factor, accumulated-eval}
 use Rattle.novel.proofs.Recursion.{one-coefficient}
 
 module _ (q : ℕ) (irr : Irreducible q) where
@@ -35,18 +35,7 @@ module _ (q : ℕ) (irr : Irreducible q) where
   infixl 70 _⊗_
   open Ops K using (_⊕_, _⊗_)
 
-  pub squared-below : (x : ℕ) → x < 2 ^ degree q → (j : ℕ) → squared K j x < 2 ^ degree q
-  unfolding squared
-  squared-below x h zero = h
-  squared-below x h (suc j) = F .sym-prod (squared-below x h j) (squared-below x h j)
-
   -- ---- one level
-
-  parts : (j : ℕ) (d : List ℕ) (x : ℕ) → 2 ^ j ≤ length d → eval K d x ≡ eval K (take (2 ^ j) d) x ⊕ squared K j x ⊗ eval K (drop (2 ^ j) d) x
-  parts j d x h = eval-parts F (2 ^ j) d x h ∙ ap (λ (t : ℕ). eval K (take (2 ^ j) d) x ⊕ t) (raised-squared F j x (eval K (drop (2 ^ j) d) x))
-
-  level-step : (lo c p hi : ℕ) → lo ⊕ p ⊗ hi ⊕ c ⊗ hi ≡ lo ⊕ (c ⊕ p) ⊗ hi
-  level-step lo c p hi = simp (ring, F)
 
   -- c times the upper half is added to the lower half
   module _ (table : List ℕ) (j half : ℕ) (ts old : List ℕ) (e : half ≡ 2 ^ j) (lt : length ts ≡ half) (two : length old ≡ 2 ^ j + 2 ^ j) where
@@ -63,8 +52,8 @@ module _ (q : ℕ) (irr : Irreducible q) where
     value : (x : ℕ) → eval K old x ⊕ raised K 0 x (c ⊗ eval K (stretch (length ts) half old) x) ≡ eval K (take (2 ^ j) old) x ⊕ shiftedBy q table j x ⊗ eval K (drop (2 ^ j) old) x
     unfolding raised
     value x =
-        ap₂ (λ (u : ℕ) (l : List ℕ). u ⊕ c ⊗ eval K l x) (parts j old x (omega arith)) upper
-        ∙ level-step (eval K (take (2 ^ j) old) x) c (squared K j x) (eval K (drop (2 ^ j) old) x)
+        ap₂ (λ (u : ℕ) (l : List ℕ). u ⊕ c ⊗ eval K l x) (eval-halves F j old x (omega arith)) upper
+        ∙ one-factor F (eval K (take (2 ^ j) old) x) c (squared K j x) (eval K (drop (2 ^ j) old) x)
 
     pub high-expanded : (new : List ℕ) → All IsZero ts → Below (2 ^ degree q) old → new ≡ accumulated q c ts half 0 old → Expanded q (shiftedBy q table) j old new
     high-expanded new z b h =
@@ -86,7 +75,7 @@ module _ (q : ℕ) (irr : Irreducible q) where
       ap₂ (λ (u v : ℕ). u ⊕ squared K j y ⊗ v)
       (powers-by j (take (2 ^ j) d) y (length-take-le (2 ^ j) d (omega arith)))
       (powers-by j (drop (2 ^ j) d) y (length-drop (2 ^ j) d ∙ omega arith))
-      ∙ sym (parts j d y (omega arith))
+      ∙ sym (eval-halves F j d y (omega arith))
 
   square-step : (u v w : ℕ) → w ≡ u ⊕ v → w ⊗ w ≡ u ⊗ u ⊕ v ⊗ v
   square-step u v w e = simp (e, ring, F)

@@ -39,7 +39,7 @@ Answered cs K k bs w π coin (Accept n) = Passes cs × (n ≡ readsOf k coin) ×
 Answered cs K k bs w π coin (Reject n) = Passes cs × (n ≡ readsOf k coin) × (Accepts K (dim k) bs w π coin → ⊥)
 Answered cs K k bs w π coin (Refused n) = Refuses cs n
 
--- the checker's answer for a modulus, a basis, a shift, a word, a proof and a coin: rows and columns are those of the span, and the shift is checked alone
+-- the checker's answer for a modulus, a basis, a shift, a word, a proof and a coin: rows and columns are those of the span; of the shift only check 4 speaks
 abbrev pub Told : ℕ → List ℕ → ℕ → List ℕ → List ℕ → ℕ → Verdict → Type 0
 Told m bs σ w π coin = Answered (checkerChecks m bs σ w π coin) (symbols m) (length bs) bs w π coin
 

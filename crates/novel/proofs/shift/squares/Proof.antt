@@ -8,9 +8,9 @@ use borrow.Author.Needs.{needs}
 use Rattle.space.specs.Sizes.{maxDim}
 use Rattle.lists.specs.Upto.{Upto, upto-none, upto-next, upto-each}
 use Rattle.field.specs.Binary.{degree, product}
-use Rattle.field.specs.Symbols.{symbols}
+use Rattle.field.specs.Symbols.{symbols, symbols-field}
 use Rattle.novel.specs.Sparse.{squared, tableCells, zeroCells}
-use Rattle.novel.proofs.Shifting.{squared-below}
+use Rattle.novel.proofs.Evaluate.{squared-symbol}
 use Rattle.novel.proofs.shift.squares.Statement.{statement}
 use Rattle.novel.proofs.shift.squares.Tie as tie
 
@@ -42,7 +42,7 @@ module _ (c : tie.At-loop Inv-loop μ-loop) where
   q = start .args .f .modulus
 
   y-symbol : c .loop .y < 2 ^ degree q
-  y-symbol = subst (λ (t : ℕ). t < 2 ^ degree q) (sym (c .loop .inv .1)) (squared-below q (start .pre .1) (start .args .x) (start .pre .2) (c .loop .j))
+  y-symbol = subst (λ (t : ℕ). t < 2 ^ degree q) (sym (c .loop .inv .1)) (squared-symbol (symbols-field q (start .pre .1)) (start .args .x) (start .pre .2) (c .loop .j))
 
 mul-requires : tie.Need-mul-requires Inv-loop μ-loop
 mul-requires c κs =
@@ -72,7 +72,7 @@ returns c =
     let s = start here in
     let u = here .loop .inv .2 in
     record {
-      below = upto-each (λ (x : ℕ). x < 2 ^ degree (q here)) (pow-pos (degree (q here))) (λ i h. squared-below (q here) (s .pre .1) (s .args .x) (s .pre .2) i) u;
+      below = upto-each (λ (x : ℕ). x < 2 ^ degree (q here)) (pow-pos (degree (q here))) (λ i h. squared-symbol (symbols-field (q here) (s .pre .1)) (s .args .x) (s .pre .2) i) u;
       right = λ i h. u .done i (omega arith) (omega arith);
     }
 
