@@ -55,7 +55,7 @@ pub fn proof_at(s: &Setting, p: &[u16]) -> Vec<u16> {
     model::proof_of(s.m, &s.b, &moved(s.m, s.shift, p))
 }
 
-/// All shifts of some settings, right and wrong: 4 from 2^l on, also before a dependent basis, and no later than 1 to 3 would come.
+/// All shifts of some settings, right and wrong: 1 to 3 come before the shift's 4, which is given from 2^l on, and 5 after it.
 fn range(t: &mut Tally) {
     let bases: [&[u16]; 5] = [&[1, 2, 4], &[1, 1, 4], &[1, 2], &[1, 2, 9000], &[7, 3, 1, 64]];
     let (mut wrong, mut met) = (0, Met::default());
@@ -78,7 +78,7 @@ fn done(call: fn(u32, &[u16], u16, &[u16], &mut [u16], &mut [u16]) -> u32, s: &S
     out
 }
 
-/// Small fields: each polynomial a + b x at each shift, and what each other shift reads in its word.
+/// Small fields: as many polynomials as there are symbols, each at each shift, and what each other shift reads in its word.
 fn small_fields(t: &mut Tally) {
     let (mut wrong, mut cases) = (0, 0);
     for (m, b) in [(11, vec![1, 2, 4]), (13, vec![5, 1, 3]), (19, vec![1, 2, 4, 8]), (31, vec![9, 3, 6, 1])] {
