@@ -1,6 +1,7 @@
 //! Processor time of the proved calls beside the independent model and beside a plain implementation with tables of logarithms, in one
-//! run, and the time of the delivery report beside that of the counter. The plain implementation checks no input; the proved calls make
-//! all their checks. With two file names, plots are written there: of encoder, decoder and prover, and of the correction.
+//! run, of the converter beside a plain copy, and the time of the delivery report beside that of the counter. The plain implementation
+//! checks no input; the proved calls make all their checks. With two file names, plots are written there: of encoder, decoder and prover,
+//! and of the correction.
 #[path = "../tests/independent/arithmetic.rs"]
 mod arithmetic;
 #[path = "../tests/independent/model.rs"]
@@ -17,6 +18,7 @@ mod nearest;
 mod calls;
 mod branch;
 mod correction;
+mod forms;
 mod gao;
 mod plain;
 mod plot;
@@ -172,14 +174,14 @@ fn stored_file(f: &plain::Field, basis: &[u16]) -> Vec<u8> {
     let w = plain::encode(f, &space, &p);
     let mut pi = vec![0u16; model::proof_length(k)];
     plain::prove(f, &space, &w, &mut pi);
-    file::bytes_of(MODULUS, basis, &w, &pi)
+    file::bytes_of(file::Form::One, MODULUS, basis, 0, &w, &pi)
 }
 
 /// The counter's call on a stored file at k = 8 with so many symbols of the word changed: all coins, and the correction of the word.
 fn counted(f: &plain::Field, basis: &[u16], count: usize) {
     let (x, space) = (file::read(&stored_file(f, basis)).ok().expect("the file is accepted"), plain::Space::new(f, basis));
     let word = correction::damaged(&x.word, count);
-    let bytes = file::bytes_of(MODULUS, basis, &word, &x.proof);
+    let bytes = file::bytes_of(file::Form::One, MODULUS, basis, 0, &word, &x.proof);
     let right = file::count(&bytes).expect("the file is accepted");
     assert_eq!(right.off, (count <= nearest::radius(word.len())).then_some(count));
     let (rejects, off) = (right.numbers[2], right.off.map_or(65536, |n| n as u64));
@@ -195,7 +197,7 @@ fn counted(f: &plain::Field, basis: &[u16], count: usize) {
     println!("  {count:3} symbols changed: proved {:.3} ms, log tables {:.3} ms, model {:.0} ms", proved / 1e6, fast / 1e6, slow / 1e6);
 }
 
-/// The host kit's call at k = 12.
+/// The host kit's calls at k = 12.
 fn stored(f: &plain::Field, basis: &[u16]) {
     let bytes = stored_file(f, basis);
     let [proved, fast] = times([
@@ -208,6 +210,7 @@ fn stored(f: &plain::Field, basis: &[u16]) {
     });
     println!("one coin from C on a stored file of {} bytes, k = 12, with the whole file checked: proved {:.3} ms;", bytes.len(), proved / 1e6);
     println!("  decoded and not checked, log tables {:.3} ms; model {:.1} ms", fast / 1e6, slow / 1e6);
+    forms::all(&bytes);
 }
 
 /// Milliseconds on the clock, which sees the processes that a call starts.

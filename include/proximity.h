@@ -1,8 +1,12 @@
-/* The proximity proof engine for C: the checker over stored files.
+/* The proximity proof engine for C: the checker over stored files, and the converter between their two forms.
  *
  * A file is lent as a pointer to its bytes and their number. Any bytes may be lent, at any address: what is no stored file is
- * refused by a number. `file` may be NULL where `length` is 0. The calls read these bytes alone and write nothing but *reads,
- * which must not lie among them. They take no memory and keep nothing, so that several threads may call at once.
+ * refused by a number. A pointer may be NULL where the length beside it is 0. Both forms are taken, and the first mark of a file
+ * tells its form.
+ *
+ * The calls read the file's bytes alone. They write nothing but *reads, *converted and, where a file is converted, all bytes of
+ * `out`. These must not lie among the file's bytes, and a refused call leaves them as they came. The calls take no memory and
+ * keep nothing, so that several threads may call at once.
  *
  * Each call checks the whole file, about 0.16 ms at dimension 12: make few calls for each file. */
 #ifndef PROXIMITY_H
@@ -16,13 +20,13 @@ extern "C" {
 #endif
 
 /* Goes up where a call or a number is added. */
-#define PROXIMITY_VERSION 2
+#define PROXIMITY_VERSION 3
 
 /* The verdicts. */
 #define PROXIMITY_ACCEPT 0u
 #define PROXIMITY_REJECT 100u
 
-/* The refusals. The calls below give 1 to 5, 8, 9, 11 and 12; the other numbers belong to calls that are not declared here.
+/* The refusals. The calls below give 1 to 6, 8, 9, 11, 12 and 14; the others belong to calls that are not declared here.
  * Later versions may give other numbers: any answer that is no verdict is a refusal. */
 #define PROXIMITY_REFUSED_MODULUS_RANGE 1u     /* the modulus is below 8 or above 131071 */
 #define PROXIMITY_REFUSED_MODULUS_REDUCIBLE 2u /* the modulus is reducible */
@@ -40,6 +44,7 @@ extern "C" {
 #define PROXIMITY_REFUSED_COUNT 12u            /* a count is not the one that the setting fixes, or bytes follow the last
                                                 * record */
 #define PROXIMITY_REFUSED_FAR 13u              /* no codeword differs from the word in at most 7/16 of its positions */
+#define PROXIMITY_REFUSED_SHIFT 14u            /* a file of form 2 to be moved to form 1 has a shift other than 0 */
 
 /* The number of the first check that refuses the file, or 0. */
 uint32_t proximity_file_refusal(const uint8_t *file, size_t length);
@@ -51,6 +56,15 @@ uint32_t proximity_coin_bits(const uint8_t *file, size_t length);
 /* The checker for one coin: PROXIMITY_ACCEPT or PROXIMITY_REJECT, and *reads is the number of symbols read, at most 64; or the
  * number of a refusal (the file's checks, then 8), and *reads is as it came. `reads` must not be NULL. */
 uint32_t proximity_check_file(const uint8_t *file, size_t length, uint64_t coin, uint32_t *reads);
+
+/* The length that the file has in the other form: 0, and *converted is that length; or the number of a refusal (the file's
+ * checks, then 14), and *converted is as it came. `converted` must not be NULL. */
+uint32_t proximity_converted_length(const uint8_t *file, size_t length, size_t *converted);
+
+/* Writes the file in the other form, form 1 to form 2 with the shift 0, or form 2 to form 1. `out` has the length that the call
+ * above tells. 0, and `out` holds that file; or the number of a refusal (the file's checks, then 14, then 6 for another length),
+ * and `out` is as it came. There and back gives the first bytes. */
+uint32_t proximity_convert(const uint8_t *file, size_t length, uint8_t *out, size_t out_length);
 
 #ifdef __cplusplus
 }

@@ -1,59 +1,7 @@
-/* Compares the host kit's calls with what the specification says of literal files. Each file is lent from an allocation of
- * exactly its length, so that a read past it shows under valgrind. */
-#include <inttypes.h>
-#include <stdio.h>
-#include <stdlib.h>
-#include <string.h>
-
-#include "proximity.h"
-
-static int passed, failed;
-
-static void expect(const char *what, uint32_t got, uint32_t want)
-{
-    if (got == want) {
-        passed++;
-        return;
-    }
-    failed++;
-    printf("%s: %" PRIu32 " in place of %" PRIu32 "\n", what, got, want);
-}
-
-/* A copy of exactly this length; of no bytes it may be NULL. */
-static uint8_t *copy_of(const uint8_t *bytes, size_t length)
-{
-    uint8_t *file = malloc(length);
-
-    if (length == 0)
-        return file;
-    if (file == NULL)
-        abort();
-    memcpy(file, bytes, length);
-    return file;
-}
-
-/* What the number of reads holds before each call. */
-#define UNREAD 77777u
-
-static void answers(const char *what, const uint8_t *file, size_t length, uint64_t coin, uint32_t answer, uint32_t symbols)
-{
-    uint32_t reads = UNREAD;
-
-    expect(what, proximity_check_file(file, length, coin, &reads), answer);
-    expect(what, reads, symbols);
-}
-
-/* Every call refuses the file, whatever the coin. */
-static void refused(const char *what, const uint8_t *bytes, size_t length, uint32_t number)
-{
-    uint8_t *file = copy_of(bytes, length);
-
-    expect(what, proximity_file_refusal(file, length), number);
-    expect(what, proximity_coin_bits(file, length), 0);
-    answers(what, file, length, 0, number, UNREAD);
-    answers(what, file, length, UINT64_MAX, number, UNREAD);
-    free(file);
-}
+/* Compares the checker's calls with what the specification says of literal files of form 1, and of files of zeros in both
+ * forms. */
+#include "expect.h"
+#include "zeros.h"
 
 /* ---- k = 3: the file that the specification prints */
 
@@ -181,41 +129,7 @@ static void lent_anywhere(void)
     }
 }
 
-/* ---- files of zeros, with the basis 1, 2, 4 and so on */
-
-static void put(uint8_t *at, uint32_t number, int bytes)
-{
-    for (; bytes > 0; bytes--, number >>= 8)
-        *at++ = number & 0xFF;
-}
-
-struct zeros {
-    uint8_t *file, *word, *proof;
-    size_t length;
-};
-
-static struct zeros zeros_of(uint32_t modulus, uint32_t k, uint32_t size)
-{
-    struct zeros z;
-    uint32_t n = (uint32_t)1 << k, i;
-
-    z.length = 7 + 2 * k + 6 + 2 * n + 6 + 2 * size;
-    z.file = calloc(z.length, 1);
-    if (z.file == NULL)
-        abort();
-    z.word = z.file + 7 + 2 * k + 6;
-    z.proof = z.word + 2 * n + 6;
-    put(z.file, 0x4553, 2);
-    put(z.file + 2, modulus, 4);
-    put(z.file + 6, k, 1);
-    for (i = 0; i < k; i++)
-        put(z.file + 7 + 2 * i, (uint32_t)1 << i, 2);
-    put(z.word - 6, 0x4F57, 2);
-    put(z.word - 4, n, 4);
-    put(z.proof - 6, 0x4650, 2);
-    put(z.proof - 4, size, 4);
-    return z;
-}
+/* ---- files of zeros, in both forms */
 
 /* All 64 coins of k = 7: an even one reads a row of 64 symbols, an odd one a column of 16. Bit i of `rejects` is set where coin
  * i rejects. */
@@ -232,9 +146,9 @@ static uint64_t bit(uint32_t i)
     return (uint64_t)1 << i;
 }
 
-static void dimension_7(void)
+static void dimension_7(int form)
 {
-    struct zeros z = zeros_of(283, 7, 896);
+    struct zeros z = zeros_of(form, 283, 7, 896);
 
     expect("k = 7", proximity_file_refusal(z.file, z.length), 0);
     expect("bits at k = 7", proximity_coin_bits(z.file, z.length), 6);
@@ -249,21 +163,33 @@ static void dimension_7(void)
     z.proof[0] = 0;
 
     /* position 32 of the word is in block 4 of row 4, and in no column */
-    z.word[2 * 32] = 1;
+    z.word[z.symbol * 32] = 1;
     all_coins("word position 32", z, bit(2 * 4) | bit(32 + 2 * 4));
-    z.word[2 * 32] = 0;
+    z.word[z.symbol * 32] = 0;
 
     refused("k = 7, cut", z.file, z.length - 1, PROXIMITY_REFUSED_CUT);
-    z.proof[2 * 895 + 1] = 1;
-    refused("the last symbol 256", z.file, z.length, PROXIMITY_REFUSED_SYMBOL);
-    z.proof[2 * 895 + 1] = 0;
     z.proof[-4] = 0x81;
     refused("897 symbols in the proof", z.file, z.length, PROXIMITY_REFUSED_COUNT);
     free(z.file);
 }
 
+/* The last symbol of a file at k = 7 as large as it may be, and one more. A byte holds no symbol that is too large at l = 8. */
+static void last_symbol(int form, uint32_t modulus, uint32_t limit)
+{
+    struct zeros z = zeros_of(form, modulus, 7, 896);
+    uint8_t *last = z.file + z.length - z.symbol;
+
+    put(last, limit - 1, z.symbol);
+    expect("the last symbol below 2^l", proximity_file_refusal(z.file, z.length), 0);
+    if (limit >> 8 * z.symbol == 0) {
+        put(last, limit, z.symbol);
+        refused("the last symbol 2^l", z.file, z.length, PROXIMITY_REFUSED_SYMBOL);
+    }
+    free(z.file);
+}
+
 /* The proof lengths and coin bits by dimension. The last coin takes a column, coin 0 rows down to one of 64 symbols. */
-static void dimensions(void)
+static void dimensions(int form)
 {
     static const struct {
         uint32_t k, size, bits, column;
@@ -273,7 +199,7 @@ static void dimensions(void)
     size_t i;
 
     for (i = 0; i < sizeof table / sizeof *table; i++) {
-        struct zeros z = zeros_of(4105, table[i].k, table[i].size);
+        struct zeros z = zeros_of(form, 4105, table[i].k, table[i].size);
 
         expect("dimension", proximity_file_refusal(z.file, z.length), 0);
         expect("coin bits", proximity_coin_bits(z.file, z.length), table[i].bits);
@@ -286,14 +212,20 @@ static void dimensions(void)
 
 int main(void)
 {
+    int form;
+
     accepted_sample();
     refused_settings();
     refused_records();
     refused_lengths();
     lent_nowhere();
     lent_anywhere();
-    dimension_7();
-    dimensions();
-    printf("%d passed, %d failed\n", passed, failed);
-    return failed != 0;
+    for (form = 1; form <= 2; form++) {
+        dimension_7(form);
+        last_symbol(form, 137, 1 << 7);
+        last_symbol(form, 283, 1 << 8);
+        last_symbol(form, 515, 1 << 9);
+        dimensions(form);
+    }
+    return closing();
 }

@@ -11,11 +11,16 @@ mod raw {
         pub fn proximity_correct(modulus: u32, basis: *const u16, n: usize, shift: u16, word: *const u16, w: usize, corrected: *mut u16, c: usize, scratch: *mut u16, s: usize) -> u64;
         pub fn proximity_check(modulus: u32, basis: *const u16, n: usize, shift: u16, word: *const u16, w: usize, proof: *const u16, p: usize, coin: u64) -> u64;
         pub fn proximity_write(modulus: u32, basis: *const u16, n: usize, word: *const u16, w: usize, proof: *const u16, p: usize, out: *mut u8, o: usize) -> u32;
+        pub fn proximity_write_form_two(modulus: u32, basis: *const u16, n: usize, shift: u16, word: *const u16, w: usize, proof: *const u16, p: usize, out: *mut u8, o: usize) -> u32;
         pub fn proximity_make(message: *const u8, n: usize, out: *mut u8, o: usize) -> u32;
         pub fn proximity_total(file: *const u8, n: usize, which: u32) -> u64;
         pub fn proximity_entry(bytes: *const u8, n: usize, which: u32) -> u64;
         pub fn proximity_place(file: *const u8, n: usize, which: u32) -> u64;
         pub fn proximity_prefix_place(file: *const u8, n: usize, which: u32) -> u64;
+        pub fn proximity_word_byte(file: *const u8, n: usize, at: u64) -> u32;
+        pub fn proximity_proof_byte(file: *const u8, n: usize, at: u64) -> u32;
+        pub fn proximity_convert(file: *const u8, n: usize, out: *mut u8, o: usize) -> u32;
+        pub fn proximity_converted_length(file: *const u8, n: usize, converted: *mut usize) -> u32;
         pub fn proximity_file_refusal(file: *const u8, n: usize) -> u32;
         pub fn proximity_coin_bits(file: *const u8, n: usize) -> u32;
         pub fn proximity_check_file(file: *const u8, n: usize, coin: u64, reads: *mut u32) -> u32;
@@ -63,6 +68,10 @@ pub fn write(m: u32, b: &[u16], w: &[u16], p: &[u16], out: &mut [u8]) -> u32 {
     unsafe { raw::proximity_write(m, b.as_ptr(), b.len(), w.as_ptr(), w.len(), p.as_ptr(), p.len(), out.as_mut_ptr(), out.len()) }
 }
 
+pub fn write_form_two(m: u32, b: &[u16], shift: u16, w: &[u16], p: &[u16], out: &mut [u8]) -> u32 {
+    unsafe { raw::proximity_write_form_two(m, b.as_ptr(), b.len(), shift, w.as_ptr(), w.len(), p.as_ptr(), p.len(), out.as_mut_ptr(), out.len()) }
+}
+
 pub fn make(message: &[u8], out: &mut [u8]) -> u32 {
     unsafe { raw::proximity_make(message.as_ptr(), message.len(), out.as_mut_ptr(), out.len()) }
 }
@@ -77,14 +86,50 @@ pub fn entry(bytes: &[u8]) -> [u64; 6] {
     [0, 1, 2, 3, 4, 5].map(|i| unsafe { raw::proximity_entry(bytes.as_ptr(), bytes.len(), i) })
 }
 
-/// The refusal, and where word, proof and file end, of a whole file.
-pub fn places(file: &[u8]) -> [u64; 4] {
-    [0, 1, 2, 3].map(|i| unsafe { raw::proximity_place(file.as_ptr(), file.len(), i) })
+/// What a reader hands back, by number: the refusal; where the symbols of word and proof begin, and where the records end; the form, the
+/// bytes of a symbol, and the shift.
+pub type Places = [u64; 7];
+
+/// A number of the reading of a whole file.
+pub fn place(file: &[u8], which: u32) -> u64 {
+    unsafe { raw::proximity_place(file.as_ptr(), file.len(), which) }
 }
 
-/// The same of three records that bytes may follow.
-pub fn prefix_places(file: &[u8]) -> [u64; 4] {
-    [0, 1, 2, 3].map(|i| unsafe { raw::proximity_prefix_place(file.as_ptr(), file.len(), i) })
+pub fn places(file: &[u8]) -> Places {
+    [0, 1, 2, 3, 4, 5, 6].map(|i| place(file, i))
+}
+
+/// A number of the reading of three records that bytes may follow.
+pub fn prefix_place(file: &[u8], which: u32) -> u64 {
+    unsafe { raw::proximity_prefix_place(file.as_ptr(), file.len(), which) }
+}
+
+pub fn prefix_places(file: &[u8]) -> Places {
+    [0, 1, 2, 3, 4, 5, 6].map(|i| prefix_place(file, i))
+}
+
+/// A byte of the word's part; past its end 256 and the refusal.
+pub fn word_byte(file: &[u8], at: u64) -> u32 {
+    unsafe { raw::proximity_word_byte(file.as_ptr(), file.len(), at) }
+}
+
+/// The same of the proof's part.
+pub fn proof_byte(file: &[u8], at: u64) -> u32 {
+    unsafe { raw::proximity_proof_byte(file.as_ptr(), file.len(), at) }
+}
+
+pub fn convert(file: &[u8], out: &mut [u8]) -> u32 {
+    unsafe { raw::proximity_convert(file.as_ptr(), file.len(), out.as_mut_ptr(), out.len()) }
+}
+
+/// What the length holds before a call.
+pub const UNTOLD: usize = 7777777;
+
+/// The answer and the length.
+pub fn converted_length(file: &[u8]) -> (u32, usize) {
+    let mut length = UNTOLD;
+    let answer = unsafe { raw::proximity_converted_length(file.as_ptr(), file.len(), &mut length) };
+    (answer, length)
 }
 
 pub fn file_refusal(file: &[u8]) -> u32 {

@@ -1,9 +1,9 @@
 //! The coin counter: the proved totals of stored files beside the independent model, and beside what is known of their words.
 use crate::correction::{amount, between, changed, damaged, places, too_high};
-use crate::file::Counts;
-use crate::files::{bytes, delivery, samples, spoil, Delivery};
+use crate::file::{Counts, Form};
+use crate::files::{bytes, delivery, samples, shifts_of, spoil, Delivery};
 use crate::nearest::{differences, radius};
-use crate::{calls, damage, file, model, spoil_setting, Draw, Met, Tally};
+use crate::{calls, damage, file, model, Draw, Met, Tally};
 
 /// What a table has beside the numbers of refusals, and 0 for a codeword: fewer differences than the radius, as many, and no near codeword.
 const NEAR: u32 = 101;
@@ -58,16 +58,16 @@ fn damage_word(d: &mut Draw, x: &mut Delivery, count: usize) {
 }
 
 /// Honest, damaged and overlong files.
-fn any_files(t: &mut Tally) {
+fn any_files(t: &mut Tally, form: Form) {
     let mut d = Draw(0x1f83d9abfb41bd6b);
     let (mut g, mut rejects) = (Group::default(), 0);
     for round in 0..800u64 {
         let k = if round < 12 { 8 } else { 3 + (round % 5) as usize };
-        let mut x = delivery(&mut d, k);
+        let mut x = delivery(&mut d, form, k);
         match round % 8 {
             1 | 5 => damage(&mut d, &mut x.w, 1 << x.s.l),
             2 | 6 => damage(&mut d, &mut x.proof, 1 << x.s.l),
-            3 => spoil_setting(&mut d, &mut x.s),
+            3 => shifts_of(form).spoil(&mut d, &mut x.s),
             7 => {
                 let count = amount(&mut d, 1 << k, round as usize / 8);
                 damage_word(&mut d, &mut x, count);
@@ -76,20 +76,20 @@ fn any_files(t: &mut Tally) {
         }
         let mut f = bytes(&x);
         match round % 16 {
-            5 => spoil(&mut d, &mut f, k),
+            5 => spoil(&mut d, &mut f, form.heads(x.s.m, k)),
             6 => f.resize(39999 + d.below(3) as usize, 0),
             8 => f.truncate(d.below(f.len() as u64) as usize),
             _ => {}
         }
         rejects += g.compare(&f).map_or(0, |r| r.numbers[2]);
     }
-    g.end(t, "coin counter", &[0, 1, 2, 3, 4, 5, 6, 9, 11, 12, NEAR, RADIUS, FAR]);
-    t.group("rejecting coins counted", 0, rejects);
+    g.end(t, &form.name("coin counter"), &[0, 1, 2, 3, 4, 5, 6, 9, 11, 12, NEAR, RADIUS, FAR]);
+    t.group(&form.name("rejecting coins counted"), 0, rejects);
 }
 
 /// At how many positions the word differs from the polynomial through its first eighth.
 fn off_first(x: &Delivery) -> usize {
-    differences(&x.w, &model::word_of(x.s.m, &x.s.b, 0, &model::through_first(x.s.m, &x.s.b, 0, &x.w)))
+    differences(&x.w, &model::word_of(x.s.m, &x.s.b, x.s.shift, &model::through_first(x.s.m, &x.s.b, x.s.shift, &x.w)))
 }
 
 /// Damages the word, or draws one at random; hands back the number of differences where it is known.
@@ -105,13 +105,13 @@ fn draw_word(d: &mut Draw, x: &mut Delivery, turn: usize) -> Option<usize> {
 }
 
 /// Damaged words and words at random. Where the first eighth is damaged, that eighth alone would tell another number.
-fn words(t: &mut Tally) {
+fn words(t: &mut Tally, form: Form) {
     let mut d = Draw(0xab1c5ed5da6d8118);
     let (mut alike, mut fronts) = (0, Met::default());
     for k in 3..=8 {
         let mut g = Group::default();
         for turn in 0..[0, 0, 0, 420, 420, 210, 126, 84, 28][k] {
-            let mut x = delivery(&mut d, k);
+            let mut x = delivery(&mut d, form, k);
             let front = x.w[..1 << (k - 3)].to_vec();
             let known = draw_word(&mut d, &mut x, turn);
             let off = g.accepted(&x).off;
@@ -121,33 +121,33 @@ fn words(t: &mut Tally) {
                 fronts.add(k as u32);
             }
         }
-        g.end(t, &format!("counts of words at k = {k}"), &[0, NEAR, RADIUS, FAR]);
+        g.end(t, &form.name(&format!("counts of words at k = {k}")), &[0, NEAR, RADIUS, FAR]);
     }
-    t.answers("near words damaged in the first eighth, by k", alike, &fronts, &[3, 4, 5, 6, 7, 8]);
+    t.answers(&form.name("near words damaged in the first eighth, by k"), alike, &fronts, &[3, 4, 5, 6, 7, 8]);
 }
 
 /// Words at the border, whose differences are known without a search.
-fn border(t: &mut Tally) {
+fn border(t: &mut Tally, form: Form) {
     let mut d = Draw(0xd807aa98a3030242);
     let mut g = Group::default();
     for turn in 0..300 {
-        let mut x = delivery(&mut d, 3 + turn / 2 % if turn < 24 { 6 } else { 5 });
+        let mut x = delivery(&mut d, form, 3 + turn / 2 % if turn < 24 { 6 } else { 5 });
         let (w, near) = if turn % 2 == 0 { between(&mut d, &x.s) } else { (too_high(&mut d, &x.s), None) };
         let known = near.map(|c| differences(&c, &w));
         x.w = w;
         let off = g.accepted(&x).off;
         g.wrong += u64::from(off != known);
     }
-    g.end(t, "counts at the border", &[NEAR, RADIUS, FAR]);
+    g.end(t, &form.name("counts at the border"), &[NEAR, RADIUS, FAR]);
 }
 
 /// Damaged proofs and those of other words, beside words with no damage or some: coins reject, and only the word's damage is told.
-fn proofs(t: &mut Tally) {
+fn proofs(t: &mut Tally, form: Form) {
     let mut d = Draw(0x12835b0145706fbe);
     let mut g = Group::default();
     for turn in 0..120 {
         let k = if turn < 12 { 8 } else { 7 };
-        let (mut x, other) = (delivery(&mut d, k), d.list(1 << (k - 3), 8));
+        let (mut x, other) = (delivery(&mut d, form, k), d.list(1 << (k - 3), 8));
         let n = x.proof.len() as u64;
         x.proof = match turn % 4 {
             0 => damaged(&mut d, &x.s, &x.proof, 1),
@@ -163,16 +163,17 @@ fn proofs(t: &mut Tally) {
         let right = g.accepted(&x);
         g.wrong += u64::from(right.off != Some(count) || right.numbers[2] == 0);
     }
-    g.end(t, "counts of damaged proofs", &[0, NEAR, RADIUS]);
+    g.end(t, &form.name("counts of damaged proofs"), &[0, NEAR, RADIUS]);
 }
 
 /// A sample and one that is made from it: the positions at which the words differ, and the number that is then known.
 type Made = (&'static str, &'static str, fn(usize) -> bool, Option<usize>);
 
-const MADE: [Made; 7] = [
+const MADE: [Made; 8] = [
     ("k3", "k3-word", |i| i == 0, Some(1)),
     ("k6", "k6-word", |i| i == 32, Some(1)),
     ("k7", "k7-word", |i| i == 32, Some(1)),
+    ("k7-shift", "k7-shift-word", |i| i == 32, Some(1)),
     ("k8", "k8-word", |i| i == 32, Some(1)),
     ("k8", "k8-first", |i| i == 0, Some(1)),
     ("k8", "k8-radius", |i| i % 16 < 7, Some(112)),
@@ -186,7 +187,7 @@ fn made(t: &mut Tally) {
         let [first, second] = [from, name].map(|x| std::fs::read(format!("samples/{x}.stored")).expect("a sample can be read"));
         let [a, b] = [&first, &second].map(|f| file::read(f).ok().expect("a sample is accepted"));
         let places = (0..a.word.len()).all(|i| at(i) == (a.word[i] != b.word[i]));
-        let rest = file::bytes_of(a.modulus, &a.basis, &b.word, &a.proof) == second;
+        let rest = file::bytes_of(a.form, a.modulus, &a.basis, a.shift, &b.word, &a.proof) == second;
         let told = g.compare(&second).is_ok_and(|r| r.off == off);
         g.wrong += u64::from(!(places && rest && told));
     }
@@ -205,10 +206,12 @@ fn text(f: &[u8]) -> String {
 }
 
 pub fn all(t: &mut Tally) {
-    any_files(t);
-    words(t);
-    border(t);
-    proofs(t);
+    for form in [Form::One, Form::Two] {
+        any_files(t, form);
+        words(t, form);
+        border(t, form);
+        proofs(t, form);
+    }
     made(t);
     samples(t, "stored", "counts", text);
 }

@@ -1,5 +1,7 @@
-//! The larger dimensions: at each one delivery of the model, whole, and some coins of it, on symbols and from C.
+//! The larger dimensions: at each one delivery of the model, whole, and some coins of it, on symbols and from C. Its file has form 1 where
+//! the shift is 0, else form 2.
 use crate::codec::left;
+use crate::file::Form;
 use crate::files::coded;
 use crate::shifts::proof_at;
 use crate::symbols::Pair;
@@ -67,60 +69,80 @@ fn symbols(t: &mut Tally, shifts: Shifts, d: &mut Draw, y: &mut Delivery) {
     t.answers(&shifts.name(&format!("coins at k = {}", y.k)), wrong, &met, &[0, 100]);
 }
 
-/// Where the bytes of a place stand in the file.
-fn byte_of(k: usize, at: model::Place) -> usize {
-    let word = 7 + 2 * k + 6;
-    match at {
-        model::Place::Word(i) => word + 2 * i,
-        model::Place::Proof(i) => word + (2 << k) + 6 + 2 * i,
-    }
+fn form_of(shifts: Shifts) -> Form {
+    if shifts == Shifts::Zero { Form::One } else { Form::Two }
 }
 
-/// Writer and readers on the delivery's file.
-fn stored(t: &mut Tally, y: &Delivery) {
-    let f = file::bytes_of(y.x.s.m, &y.x.s.b, &y.x.w, &y.x.proof);
-    let mut out = vec![9; f.len()];
+fn file_of(form: Form, x: &Pair) -> Vec<u8> {
+    file::bytes_of(form, x.s.m, &x.s.b, x.s.shift, &x.w, &x.proof)
+}
+
+/// Where the bytes of a place stand in the file.
+fn bytes_at(form: Form, y: &Delivery, at: model::Place) -> std::ops::Range<usize> {
+    let ([_, word, proof], width) = (form.heads(y.x.s.m, y.k), form.width(y.x.s.m));
+    let from = match at {
+        model::Place::Word(i) => word + 6 + width * i,
+        model::Place::Proof(i) => proof + 6 + width * i,
+    };
+    from..from + width
+}
+
+/// Writer, readers and converter on the delivery's file.
+fn stored(t: &mut Tally, shifts: Shifts, y: &Delivery) {
+    let (form, x) = (form_of(shifts), &y.x);
+    let f = file_of(form, x);
+    let (mut out, mut other) = (vec![9; f.len()], vec![9; file::file_length(form.other(), x.s.m, y.k)]);
+    let written = match form {
+        Form::One => calls::write(x.s.m, &x.s.b, &x.w, &x.proof, &mut out),
+        Form::Two => calls::write_form_two(x.s.m, &x.s.b, x.s.shift, &x.w, &x.proof, &mut out),
+    };
+    let number = calls::convert(&f, &mut other);
+    let moved = match file::converted(&f) {
+        Err(n) => number == n && other.iter().all(|b| *b == 9),
+        Ok(right) => number == 0 && other == right && calls::convert(&other, &mut out) == 0,
+    };
     let right = [
-        calls::write(y.x.s.m, &y.x.s.b, &y.x.w, &y.x.proof, &mut out) == 0 && out == f,
+        written == 0 && out == f,
         calls::places(&f) == coded(file::read(&f)),
         calls::prefix_places(&f) == calls::places(&f),
         calls::coin_bits(&f) == model::coin_bits(y.k),
+        moved && out == f,
+        number == if x.s.shift == 0 { 0 } else { 14 },
     ];
-    t.group(&format!("file at k = {}", y.k), right.iter().filter(|x| !**x).count() as u64, 4);
+    t.group(&shifts.name(&format!("file at k = {}", y.k)), right.iter().filter(|x| !**x).count() as u64, 6);
 }
 
 /// The checker from C on the delivery's file; in every second turn a symbol that the coin reads is changed.
-fn bytes(t: &mut Tally, d: &mut Draw, y: &mut Delivery) {
-    let mut f = file::bytes_of(y.x.s.m, &y.x.s.b, &y.x.w, &y.x.proof);
+fn bytes(t: &mut Tally, shifts: Shifts, d: &mut Draw, y: &mut Delivery) {
+    let form = form_of(shifts);
+    let mut f = file_of(form, &y.x);
     let (mut wrong, mut met) = (0, Met::default());
     for turn in 0..50 {
         let (coin, at) = coin(d, y.k);
         let symbol = d.below(1 << y.x.s.l) as u16;
         let kept = y.x.swap(at, symbol);
+        let place = bytes_at(form, y, at);
         if turn % 2 == 0 {
             y.x.swap(at, kept);
         } else {
-            f[byte_of(y.k, at)..][..2].copy_from_slice(&symbol.to_le_bytes());
+            f[place.clone()].copy_from_slice(&symbol.to_le_bytes()[..place.len()]);
         }
-        let right = model::host_answer(model::check(y.x.s.m, &y.x.s.b, 0, &y.x.w, &y.x.proof, coin), calls::UNREAD);
+        let right = model::host_answer(model::check(y.x.s.m, &y.x.s.b, y.x.s.shift, &y.x.w, &y.x.proof, coin), calls::UNREAD);
         wrong += u64::from(calls::check_file(&f, coin) != right);
         met.add(right.0);
         y.x.swap(at, kept);
-        f[byte_of(y.k, at)..][..2].copy_from_slice(&kept.to_le_bytes());
+        f[place.clone()].copy_from_slice(&kept.to_le_bytes()[..place.len()]);
     }
-    t.answers(&format!("coins from C at k = {}", y.k), wrong, &met, &[0, 100]);
+    t.answers(&shifts.name(&format!("coins from C at k = {}", y.k)), wrong, &met, &[0, 100]);
 }
 
-/// Files have the shift 0.
 pub fn all(t: &mut Tally, shifts: Shifts) {
     let mut d = Draw(0xbb67ae8584caa73b);
     for k in 8..=12 {
         let mut y = delivery(&mut d, shifts, k);
         whole(t, shifts, &mut d, &y);
         symbols(t, shifts, &mut d, &mut y);
-        if shifts == Shifts::Zero {
-            stored(t, &y);
-            bytes(t, &mut d, &mut y);
-        }
+        stored(t, shifts, &y);
+        bytes(t, shifts, &mut d, &mut y);
     }
 }

@@ -2,10 +2,13 @@
 mod arithmetic;
 mod calls;
 mod codec;
+mod convert;
 mod correction;
 mod counter;
+mod entries;
 mod file;
 mod files;
+mod forms;
 mod largest;
 mod model;
 mod nearest;
@@ -16,6 +19,7 @@ mod stream;
 mod symbols;
 mod writers;
 
+use file::Form;
 use shifts::Shifts;
 use std::collections::BTreeMap;
 
@@ -158,9 +162,14 @@ fn main() {
         largest::all(&mut t, shifts);
     }
     shifts::all(&mut t);
-    files::all(&mut t);
+    for form in [Form::One, Form::Two] {
+        files::all(&mut t, form);
+    }
+    forms::all(&mut t);
+    convert::all(&mut t);
     writers::all(&mut t);
     counter::all(&mut t);
+    entries::all(&mut t);
     report::all(&mut t);
     println!("{} passed, {} failed", t.passed, t.failed);
     std::process::exit(i32::from(t.failed != 0));

@@ -1,68 +1,12 @@
-//! The delivery report: the proved entry at the front of a stream, and the program on whole streams, beside the independent model.
-use crate::files::{bytes, cuts, damaged_file, delivery, delivery_in, samples};
-use crate::stream::{entries, front, report, Known, FILES};
-use crate::{calls, damage, file, setting, setting_of, spoil_setting, Draw, Met, Tally};
+//! The delivery report: the program on whole streams, whose files have either form, beside the independent model.
+use crate::entries::{any_form, cut, large, noise};
+use crate::file::Form;
+use crate::files::{bytes, damaged_file, delivery, delivery_in, samples};
+use crate::stream::{entries, report, Known, FILES};
+use crate::{damage, file, setting, setting_of, Draw, Met, Setting, Tally};
 use std::io::{ErrorKind, Write};
 use std::process::{Child, Command, Output, Stdio};
 use std::time::Duration;
-
-/// Whether the proved call gives the model's entry. The number goes into the table, or 100 for a file with rejecting coins.
-fn same(stream: &[u8], known: &mut Known, met: &mut Met) -> bool {
-    let (number, right) = match front(stream, known) {
-        Err(n) => (n, [n as u64, 0, 0, 0, 0, 0]),
-        Ok(e) => {
-            let [k, coins, rejects, most] = e.numbers;
-            (if rejects == 0 { 0 } else { 100 }, [0, k, coins, rejects, most, e.end as u64])
-        }
-    };
-    met.add(number);
-    calls::entry(stream) == right
-}
-
-/// Fewer than n bytes of any value.
-fn noise(d: &mut Draw, n: u64) -> Vec<u8> {
-    (0..d.below(n)).map(|_| d.next() as u8).collect()
-}
-
-fn cut(d: &mut Draw, f: &mut Vec<u8>) {
-    f.truncate(d.below(f.len() as u64) as usize);
-}
-
-/// A setting of dimension 9 or more, right or not, whole or not, with two empty records or nothing behind it.
-fn large(d: &mut Draw) -> Vec<u8> {
-    let k = 9 + d.below(4) as usize;
-    let mut s = setting(d, k);
-    if d.below(3) == 0 {
-        spoil_setting(d, &mut s);
-    }
-    let mut f = file::bytes_of(s.m, &s.b, &[], &[]);
-    match d.below(4) {
-        0 => f.truncate(7 + 2 * s.b.len()),
-        1 => cut(d, &mut f),
-        _ => {}
-    }
-    f
-}
-
-/// Files that are right, damaged, cut or too large, with other files, any bytes or nothing behind them.
-fn fronts(t: &mut Tally) {
-    let mut d = Draw(0x428a2f98d728ae22);
-    let (mut wrong, mut met, mut known) = (0, Met::default(), Known::new());
-    for round in 0..3000u64 {
-        let (k, next) = (if round % 100 == 0 { 8 } else { 3 + d.below(5) as usize }, 3 + d.below(4) as usize);
-        let mut f = if round % 8 == 1 { large(&mut d) } else { damaged_file(&mut d, k) };
-        if d.below(6) == 0 && !f.is_empty() {
-            cut(&mut d, &mut f);
-        }
-        match d.below(4) {
-            0 => {}
-            1 => f.extend(noise(&mut d, 60)),
-            _ => f.extend(bytes(&delivery(&mut d, next))),
-        }
-        wrong += u64::from(!same(&f, &mut known, &mut met));
-    }
-    t.answers("entries", wrong, &met, &[0, 1, 2, 3, 4, 5, 6, 9, 11, 12, 100]);
-}
 
 /// Writes the stream in pieces of any length, with pauses, so that reads come short. The program may stop reading before the end, so
 /// the draws are apart from all others: how many they are depends on the time.
@@ -94,7 +38,8 @@ fn run(d: Draw, stream: &[u8]) -> Output {
 /// The files that streams are made of, and how the program did with the streams of one group.
 struct Streams {
     d: Draw,
-    /// accepted files by dimension less 3, four of each: the second has a damaged word, the third a damaged proof
+    /// accepted files by dimension less 3, four of each in form 1, then four in form 2: of four the second has a damaged word, the
+    /// third a damaged proof
     files: Vec<Vec<Vec<u8>>>,
     known: Known,
     wrong: u64,
@@ -105,21 +50,21 @@ impl Streams {
     fn new() -> Streams {
         let mut d = Draw(0x7137449123ef65cd);
         let mut accepted = |k, i| {
-            let mut x = delivery(&mut d, k);
-            match i {
+            let mut x = delivery(&mut d, if i < 4 { Form::One } else { Form::Two }, k);
+            match i % 4 {
                 1 => damage(&mut d, &mut x.w, 1 << x.s.l),
                 2 => damage(&mut d, &mut x.proof, 1 << x.s.l),
                 _ => {}
             }
             bytes(&x)
         };
-        let files = (3..=8).map(|k| (0..4).map(|i| accepted(k, i)).collect()).collect();
+        let files = (3..=8).map(|k| (0..8).map(|i| accepted(k, i)).collect()).collect();
         Streams { d, files, known: Known::new(), wrong: 0, met: Met::default() }
     }
 
     /// A file of one of the first dimensions.
     fn any(&mut self, dims: u64) -> Vec<u8> {
-        self.files[self.d.below(dims) as usize][self.d.below(4) as usize].clone()
+        self.files[self.d.below(dims) as usize][self.d.below(8) as usize].clone()
     }
 
     /// Files of the first dimensions.
@@ -149,29 +94,34 @@ impl Streams {
     }
 }
 
-/// One byte of the paper's file changed: where, to what, and the number. The file stands alone and between others.
-fn changed(s: &mut Streams) {
-    let right = file::bytes_of(11, &[1, 2, 4], &[5; 8], &[]);
-    let edits = [
-        (0, 0, 11), (2, 7, 1), (4, 2, 1), (2, 15, 2), (6, 0, 3), (6, 255, 3), (6, 8, 4), (8, 1, 4), (11, 3, 5), (13, 0, 11), (15, 7, 12),
-        (19, 8, 9), (34, 1, 9), (35, 0, 11), (37, 1, 12), (40, 1, 12),
-    ];
+/// One byte of the paper's file, in either form, changed: where, to what, and the number.
+const IN_FORM_ONE: [(usize, u8, u32); 19] = [
+    (0, 0, 11), (1, 0x32, 4), (2, 7, 1), (4, 2, 1), (2, 15, 2), (6, 0, 3), (6, 255, 3), (6, 8, 4), (8, 1, 4), (11, 3, 5), (13, 0, 11),
+    (14, 0x32, 11), (15, 7, 12), (19, 8, 9), (34, 1, 9), (35, 0, 11), (36, 0x32, 11), (37, 1, 12), (40, 1, 12),
+];
+const IN_FORM_TWO: [(usize, u8, u32); 21] = [
+    (0, 0, 11), (1, 0x45, 11), (2, 7, 1), (4, 2, 1), (2, 15, 2), (6, 0, 3), (6, 255, 3), (6, 8, 4), (8, 1, 4), (11, 3, 5), (13, 8, 4),
+    (14, 1, 4), (15, 0, 11), (16, 0x4f, 11), (17, 7, 12), (21, 8, 9), (28, 255, 9), (29, 0, 11), (30, 0x46, 11), (31, 1, 12), (34, 1, 12),
+];
+
+/// The file with the byte changed stands alone and between others.
+fn changed(s: &mut Streams, form: Form, edits: &[(usize, u8, u32)]) {
+    let right = file::bytes_of(form, 11, &[1, 2, 4], 0, &[5; 8], &[]);
     for (at, to, number) in edits {
         let mut f = right.clone();
-        f[at] = to;
-        s.compare(&f, Some((1, number)));
-        s.compare(&[&right[..], &f, &right].concat(), Some((2, number)));
+        f[*at] = *to;
+        s.compare(&f, Some((1, *number)));
+        s.compare(&[&right[..], &f, &right].concat(), Some((2, *number)));
         let (front, back) = (s.some(4, 6), s.some(2, 5));
-        s.compare(&[front, f, back].concat(), Some((5, number)));
+        s.compare(&[front, f, back].concat(), Some((5, *number)));
     }
 }
 
-/// Streams whose refusal is known: the place and the number, or zeros.
-fn fixed(t: &mut Tally, s: &mut Streams) {
-    changed(s);
+/// Streams of files of form 1 whose refusal is known: the place and the number, or zeros.
+fn fixed(s: &mut Streams) {
     let wide = setting_of(&mut s.d, 16, 7);
-    let seven = bytes(&delivery_in(&mut s.d, wide));
-    let (three, eight, nine) = (s.files[0][0].clone(), s.files[5][1].clone(), bytes(&delivery(&mut s.d, 9)));
+    let seven = bytes(&delivery_in(&mut s.d, Form::One, wide));
+    let (three, eight, nine) = (s.files[0][0].clone(), s.files[5][1].clone(), bytes(&delivery(&mut s.d, Form::One, 9)));
     let streams: [(&[&[u8]], usize, u32); 17] = [
         (&[], 0, 0),
         (&[b"\n"], 1, 11),
@@ -195,20 +145,57 @@ fn fixed(t: &mut Tally, s: &mut Streams) {
     for (parts, place, number) in streams {
         s.compare(&parts.concat(), Some((place, number)));
     }
+}
+
+/// The same of both forms: a byte or two for a symbol, and each file in its own form.
+fn fixed_forms(s: &mut Streams) {
+    let mut in_form_two = |l, k, shift| {
+        let x = Setting { shift, ..setting_of(&mut s.d, l, k) };
+        bytes(&delivery_in(&mut s.d, Form::Two, x))
+    };
+    let (three, seven, eight, nine) = (in_form_two(8, 3, 9), in_form_two(16, 7, 300), in_form_two(8, 8, 255), in_form_two(9, 9, 1));
+    let first = s.files[0][0].clone();
+    let streams: [(&[&[u8]], usize, u32); 12] = [
+        (&[&three], 0, 0),
+        (&[&first, &three, &eight, &first, &seven, &eight], 0, 0),
+        (&[b"S2\x0b"], 1, 11),
+        (&[&first, b"S2"], 2, 11),
+        (&[&three, b"S", &first], 2, 11),
+        (&[&nine], 1, 6),
+        (&[&three, &nine, &first], 2, 6),
+        (&[&eight, &eight, &nine[..27], &first], 3, 6),
+        (&[&first, &nine[..27]], 2, 6),
+        (&[&first, &nine[..26]], 2, 11),
+        (&[&eight, &eight[..16420]], 2, 11),
+        // the last byte is that of the next file, which is then no file
+        (&[&seven[..2082], &three], 2, 11),
+    ];
+    for (parts, place, number) in streams {
+        s.compare(&parts.concat(), Some((place, number)));
+    }
+}
+
+/// Streams whose refusal is known.
+fn known(t: &mut Tally, s: &mut Streams) {
+    changed(s, Form::One, &IN_FORM_ONE);
+    fixed(s);
     s.end(t, "streams with a known refusal", &[0, 1, 2, 3, 4, 5, 6, 9, 11, 12]);
+    changed(s, Form::Two, &IN_FORM_TWO);
+    fixed_forms(s);
+    s.end(t, "streams of both forms with a known refusal", &[0, 1, 2, 3, 4, 5, 6, 9, 11, 12]);
 }
 
 /// Streams of about as many files as are read, with nothing, any bytes, a right file or a refused one behind them.
 fn many(t: &mut Tally, s: &mut Streams) {
     let nine = setting(&mut s.d, 9);
     for n in [FILES - 1, FILES, FILES + 1, FILES + 5] {
-        let too_large = file::bytes_of(nine.m, &nine.b, &[], &[]);
+        let too_large = file::bytes_of(Form::One, nine.m, &nine.b, 0, &[], &[]);
         for last in [vec![], vec![b'\n'], noise(&mut s.d, 60000), vec![0x53; 100000], s.any(6), too_large] {
             let stream = [s.some(n, 4), last].concat();
             s.compare(&stream, None);
         }
     }
-    let eights = s.files[5].concat().repeat(FILES / 4);
+    let eights = s.files[5].concat().repeat(FILES / 8);
     s.compare(&eights, Some((0, 0)));
     s.compare(&[&eights[..], &s.files[5][0], b"\n"].concat(), Some((0, 0)));
     s.end(t, "streams of 199 files and more", &[0, 6, 11]);
@@ -218,7 +205,7 @@ fn many(t: &mut Tally, s: &mut Streams) {
 fn long(t: &mut Tally, s: &mut Streams) {
     for round in 0..100u64 {
         let (files, small) = (2 + s.d.below(20) as usize, s.d.below(170) as usize);
-        let mut stream = s.files[5][(round % 4) as usize].clone();
+        let mut stream = s.files[5][(round % 8) as usize].clone();
         stream.extend(if round % 2 == 0 { s.some(files, 6) } else { s.some(small, 4) });
         let mut last = s.any(6);
         if round % 3 == 0 {
@@ -235,11 +222,11 @@ fn mixed(t: &mut Tally, s: &mut Streams) {
     for _ in 0..400 {
         let mut stream = vec![];
         for _ in 0..s.d.below(9) {
-            let k = 3 + s.d.below(5) as usize;
+            let (k, form) = (3 + s.d.below(5) as usize, any_form(&mut s.d));
             let mut f = match s.d.below(20) {
-                0 => large(&mut s.d),
+                0 => large(&mut s.d, form),
                 1 => noise(&mut s.d, 30),
-                2..=5 => damaged_file(&mut s.d, k),
+                2..=5 => damaged_file(&mut s.d, form, k),
                 _ => s.any(5),
             };
             if s.d.below(20) == 0 && !f.is_empty() {
@@ -253,13 +240,10 @@ fn mixed(t: &mut Tally, s: &mut Streams) {
 }
 
 pub fn all(t: &mut Tally) {
-    let mut known = Known::new();
-    cuts(t, "entries cut at every length", |f, met| same(f, &mut known, met));
-    fronts(t);
     let mut s = Streams::new();
-    fixed(t, &mut s);
+    known(t, &mut s);
     many(t, &mut s);
     long(t, &mut s);
     mixed(t, &mut s);
-    samples(t, "stream", "report", |f| report(&entries(f, &mut known)));
+    samples(t, "stream", "report", |f| report(&entries(f, &mut s.known)));
 }

@@ -2,15 +2,13 @@
 use mathlib.Core.Path.{_≡_, refl, sym, ap, _∙_, subst}
 use mathlib.Core.Logic.{inl, inr, _↔_}
 use mathlib.Core.List.{List, List-discrete}
-use Prim.Native.Nat.{ℕ, _+_, _*_, _^_, _≤_, _<_}
+use Prim.Native.Nat.{ℕ, _^_, _≤_, _<_}
 use native.Mathlib.Decide.{ℕ-discrete}
 use native.Mathlib.Omega.{arith}
 use lib.ListN.{length}
 use lib.Pow.{pow-pos}
 use Rattle.lists.specs.All.{Below, All-at}
 use Rattle.lists.specs.Answers.{Answers, Passes, answers-one}
-use Rattle.lists.specs.Tables.{length-tab}
-use Rattle.field.specs.Binary.{degree}
 use Rattle.field.specs.Checks.{not-less}
 use Rattle.field.specs.Laws.{Ops, IsField}
 use Rattle.field.specs.Symbols.{symbols}
@@ -21,10 +19,10 @@ use Rattle.proximity.specs.Verdict.{verdict}
 use Rattle.proximity.specs.Verifier.{Accepts, positions}
 use Rattle.verifier.specs.Checker.{symbolsAt, readsOf}
 use Rattle.stored.specs.Accepted.{Accepted, accepted, told-refuses}
-use Rattle.stored.specs.Bytes.{twoAt}
 use Rattle.stored.specs.CheckLaws.{coin-passes}
-use Rattle.stored.specs.File.{fileLimit, wordAt, proofAt, modulusIn, dimIn, basisIn, wordIn, proofIn}
+use Rattle.stored.specs.File.{fileLimit, wordStart, proofStart, formIn, modulusIn, degreeIn, dimIn, basisIn, narrowIn, wordIn, proofIn}
 use Rattle.stored.specs.Leaf.{symbols-below}
+use Rattle.stored.specs.Packed.{length-numbers}
 use Rattle.stored.specs.Passed.{length-basis}
 use Rattle.stored.specs.Reader.{fileChecks}
 use Rattle.stored.specs.declared.Reading.{Reading}
@@ -72,7 +70,7 @@ module _ (f : List ℕ) where
 
   pub word-length : length (wordIn f) ≡ 2 ^ length (basisIn f)
   unfolding wordIn
-  word-length = length-tab (2 ^ dimIn f) (λ i. twoAt f (wordAt (dimIn f) + 2 * i)) ∙ ap (λ (k : ℕ). 2 ^ k) (sym (length-basis f))
+  word-length = length-numbers (narrowIn f) f (wordStart (formIn f) (dimIn f)) (2 ^ dimIn f) ∙ ap (λ (k : ℕ). 2 ^ k) (sym (length-basis f))
 
   module _ (p : Passes (fileChecks f)) where
     abbrev K : Ops
@@ -93,14 +91,14 @@ module _ (f : List ℕ) where
     accepts-stable coin =
         equation-stable
         (verdict field (dim (dimIn f)) (basisIn f) (wordIn f) (proofIn f) basis (word-length ∙ ap (λ (k : ℕ). 2 ^ k) (length-basis f)) proof-length coin
-        (λ i h. All-at (λ (x : ℕ). x < 2 ^ degree (modulusIn f)) (symbolsAt (dimIn f) (wordIn f) (proofIn f) coin) 0 read-below (pow-pos (degree (modulusIn f))) i))
+        (λ i h. All-at (λ (x : ℕ). x < 2 ^ degreeIn f) (symbolsAt (dimIn f) (wordIn f) (proofIn f) coin) 0 read-below (pow-pos (degreeIn f)) i))
       where
         proof-length : length (proofIn f) ≡ S (dimIn f)
-        proof-length = length-tab (S (dimIn f)) (λ i. twoAt f (proofAt (dimIn f) + 2 * i))
+        proof-length = length-numbers (narrowIn f) f (proofStart (formIn f) (degreeIn f) (dimIn f)) (S (dimIn f))
 
-        read-below : Below (2 ^ degree (modulusIn f)) (symbolsAt (dimIn f) (wordIn f) (proofIn f) coin)
+        read-below : Below (2 ^ degreeIn f) (symbolsAt (dimIn f) (wordIn f) (proofIn f) coin)
         read-below =
-            symbols-below (2 ^ degree (modulusIn f)) (wordIn f) (proofIn f) (pow-pos (degree (modulusIn f))) (held .records .word .symbols) (held .records .proof .symbols)
+            symbols-below (2 ^ degreeIn f) (wordIn f) (proofIn f) (pow-pos (degreeIn f)) (held .records .word .symbols) (held .records .proof .symbols)
             (positions (dim (dimIn f)) coin)
 
     -- no coin rejects exactly when every coin accepts

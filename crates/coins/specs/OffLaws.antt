@@ -10,7 +10,7 @@ use Rattle.coins.specs.Totals.{Off}
 use Rattle.coins.specs.declared.Distance.{Distance}
 use Rattle.coins.specs.declared.Distance.the-variants.{Near, Far}
 
-module _ (m : ℕ) (bs : List ℕ) (s : Sound m bs 0) (w : List ℕ) (lw : length w ≡ 2 ^ length bs) where
+module _ (m : ℕ) (bs : List ℕ) {σ : ℕ} (s : Sound m bs σ) (w : List ℕ) (lw : length w ≡ 2 ^ length bs) where
   pub off-one : (d e : Distance) → Off m bs w d → Off m bs w e → d ≡ e
   off-one (Near i) (Near j) (c, x) (v, y) =
       let same : c ≡ v = one-near (sound-field s) (length bs) (s .low) bs (s .basis) w lw c v (x .near) (y .near) in

@@ -39,7 +39,7 @@ pub record Swept (f : List ℕ) (k coins rejects most : ℕ) : Type 0 where
 
 -- ---- the word
 
--- c is the near codeword of w, and n the number of its differences; a file has the shift 0, so no shift is named
+-- c is the near codeword of w, and n the number of its differences; the shift changes no codeword (`near-shift`), so none is named
 pub record OffBy (m : ℕ) (bs w : List ℕ) (n : ℕ) (c : List ℕ) : Type 0 where
   pub near : Rattle.correction.specs.Near.Near (symbols m) (length bs) bs w c
   pub count : n ≡ differences w c

@@ -7,16 +7,16 @@ use lib.ListN.{length, take, drop}
 use lib.Seq.{take-at}
 use Rattle.lists.specs.Answers.{Checks, Passes, answers-one, not-refused}
 use Rattle.space.specs.Sound.{Sound}
-use Rattle.stored.specs.File.{fileOf, fileEnd, modulusIn, basisIn}
+use Rattle.stored.specs.File.{fileOf, fileEnd, formIn, modulusIn, degreeIn, basisIn, shiftIn}
 use Rattle.stored.specs.Passed.{length-basis}
 use Rattle.stored.specs.Reader.{fileChecks}
 use Rattle.stored.specs.Whole.{Delivery, Gives}
 use Rattle.stored.specs.Written.{length-file, file-accepted, file-gives}
-use Rattle.prover.specs.Calls.{ProofOf}
-use Rattle.prover.specs.Determined.{one-proof}
+use Rattle.prover.specs.Calls.{ProofAt}
+use Rattle.prover.specs.Determined.{one-proof-at}
 use Rattle.delivery.specs.Steps.{delivery}
 use Rattle.delivery.specs.Message.{wordFrom, messageChecks, Told}
-use Rattle.delivery.specs.MessageLaws.{message-passed}
+use Rattle.delivery.specs.MessageLaws.{message-carries, message-passed}
 use Rattle.delivery.specs.declared.Made.{Made}
 use Rattle.delivery.specs.declared.Made.the-variants.{Written, Refused}
 
@@ -24,7 +24,11 @@ module _ (t old : List ℕ) where
   abbrev checks : Checks
   checks = messageChecks t (length old)
 
-  message-sound : Passes checks → Sound (modulusIn t) (basisIn t) 0
+  -- the stored file of the message with the proof π
+  abbrev file : List ℕ → List ℕ
+  file π = fileOf (formIn t) (modulusIn t) (basisIn t) (shiftIn t) (wordFrom t) π
+
+  message-sound : Passes checks → Sound (modulusIn t) (basisIn t) (shiftIn t)
   message-sound p = message-passed t (length old) p .0 .setting .sound
 
   -- the bytes written fit
@@ -35,27 +39,29 @@ module _ (t old : List ℕ) where
   pub one-delivery : (new new′ : List ℕ) (r r′ : Made) → Told t old new r → Told t old new′ r′ → (r ≡ r′) × (new ≡ new′)
   one-delivery new new′ (Written n) (Written n′) (p, e, (π, P, f)) (p′, e′, (ρ, R, f′)) =
       let same : n ≡ n′ = e ∙ sym e′ in
-      let one : π ≡ ρ = one-proof (message-sound p) (wordFrom t) π ρ P R in
-      (ap Written same, f ∙ ap₂ (λ (proof : List ℕ) (j : ℕ). fileOf (modulusIn t) (basisIn t) (wordFrom t) proof ++ drop j old) one same ∙ sym f′)
+      let one : π ≡ ρ = one-proof-at (message-sound p) (wordFrom t) π ρ P R in
+      (ap Written same, f ∙ ap₂ (λ (proof : List ℕ) (j : ℕ). file proof ++ drop j old) one same ∙ sym f′)
   one-delivery new new′ (Written n) (Refused n′) (p, e, f) (q, b) = absurd (not-refused checks p q)
   one-delivery new new′ (Refused n) (Written n′) (q, b) (p, e, f) = absurd (not-refused checks p q)
   one-delivery new new′ (Refused n) (Refused n′) (q, b) (q′, b′) = (ap Refused (answers-one checks (q .1) (q′ .1)), b ∙ sym b′)
 
-  -- the bytes written are accepted by the reader of stored files, and give back modulus, basis, word and proof
+  -- the bytes written are accepted by the reader of stored files, and give back form, modulus, basis, shift, word and proof
   pub made-accepted : (new : List ℕ) (n : ℕ) → Told t old new (Written n)
-      → (π : List ℕ) × ProofOf (modulusIn t) (basisIn t) (wordFrom t) π × Passes (fileChecks (take n new)) × Gives (take n new) (modulusIn t) (basisIn t) (wordFrom t) π
+      → (π : List ℕ) × ProofAt (modulusIn t) (basisIn t) (shiftIn t) (wordFrom t) π × Passes (fileChecks (take n new))
+      × Gives (take n new) (formIn t) (modulusIn t) (basisIn t) (shiftIn t) (wordFrom t) π
   made-accepted new n (p, e, (π, P, f)) = (
     π,
     P,
-    subst (λ (l : List ℕ). Passes (fileChecks l)) (sym front) (file-accepted (modulusIn t) (basisIn t) (wordFrom t) π d),
-    subst (λ (l : List ℕ). Gives l (modulusIn t) (basisIn t) (wordFrom t) π) (sym front) (file-gives (modulusIn t) (basisIn t) (wordFrom t) π d),
+    subst (λ (l : List ℕ). Passes (fileChecks l)) (sym front) (file-accepted (formIn t) (modulusIn t) (basisIn t) (shiftIn t) (wordFrom t) π d (message-carries t)),
+    subst (λ (l : List ℕ). Gives l (formIn t) (modulusIn t) (basisIn t) (shiftIn t) (wordFrom t) π) (sym front)
+        (file-gives (formIn t) (modulusIn t) (basisIn t) (shiftIn t) (wordFrom t) π d (message-carries t)),
   )
     where
-      d : Delivery (modulusIn t) (basisIn t) (wordFrom t) π
-      d = delivery (modulusIn t) (basisIn t) (message-sound p) (wordFrom t) π P
+      d : Delivery (modulusIn t) (basisIn t) (shiftIn t) (wordFrom t) π
+      d = delivery (modulusIn t) (basisIn t) (shiftIn t) (message-sound p) (wordFrom t) π P
 
-      front : take n new ≡ fileOf (modulusIn t) (basisIn t) (wordFrom t) π
+      front : take n new ≡ file π
       front =
           ap (take n) f
-          ∙ take-at (fileOf (modulusIn t) (basisIn t) (wordFrom t) π) (drop n old) n
-          (length-file (modulusIn t) (basisIn t) (wordFrom t) π d ∙ ap fileEnd (length-basis t) ∙ sym e)
+          ∙ take-at (file π) (drop n old) n
+          (length-file (formIn t) (modulusIn t) (basisIn t) (shiftIn t) (wordFrom t) π d (message-carries t) ∙ ap (fileEnd (formIn t) (degreeIn t)) (length-basis t) ∙ sym e)

@@ -10,13 +10,6 @@ use Rattle.delivery.specs.declared.Made.{Made}
 use Rattle.delivery.specs.declared.Made.the-variants as made
 use Rattle.report.specs.declared.Entry.{Entry}
 use Rattle.stored.specs.Reader.{PartTold}
-use Rattle.stored.specs.declared.Outcome.{Outcome}
-use Rattle.stored.specs.declared.Outcome.the-variants as outcome
-
--- 0, or the number of the refusal
-abbrev pub writtenCode : Outcome → ℕ
-writtenCode outcome.Written = 0
-writtenCode (outcome.Refused n) = n
 
 -- how many bytes are written, at most fileLimit; or 65536 and the number of the refusal
 abbrev pub madeCode : Made → ℕ

@@ -2,27 +2,21 @@
 use coins::Counts;
 use coins::Distance;
 use delivery::Made;
+use filing::Outcome;
 use report::Entry;
-use stored::Outcome;
 ghost use mathlib.Core.Path.{_≡_};
-ghost use Prim.Native.Nat.{_+_, _*_, _^_};
+ghost use Prim.Native.Nat.{_+_, _^_};
 ghost use lib.ListN.{getD};
 ghost use Rattle.coins.specs.Totals as totals;
 ghost use Rattle.report.specs.Entry as entries;
 ghost use Rattle.delivery.specs.Message as making;
 ghost use Rattle.proximity.specs.Dim.{S};
-ghost use Rattle.stored.specs.File.{wordAt, proofAt, dimIn};
-ghost use Rattle.stored.specs.Writer.{Wrote};
-ghost use Rattle.exports.specs.Files.{writtenCode, madeCode, oneOf, offCode, totalOf, entryOf, PartByte};
-
-fn written_code(o: Outcome) -> u32
-    ensures { λ r. ⌜ r ≡ writtenCode o ⌝ }
-{
-    match o {
-        Outcome::Written => 0,
-        Outcome::Refused(n) => n as u32,
-    }
-}
+ghost use Rattle.stored.specs.Bytes.{packedSize};
+ghost use Rattle.stored.specs.File.{wordStart, proofStart, formIn, degreeIn, dimIn, narrowIn};
+ghost use Rattle.stored.specs.declared.Form.the-variants.{One, Two};
+ghost use Rattle.filing.specs.Filed.{numberOf};
+ghost use Rattle.filing.specs.Writer.{Wrote};
+ghost use Rattle.exports.specs.Files.{madeCode, oneOf, offCode, totalOf, entryOf, PartByte};
 
 fn made_code(m: Made) -> u32
     ensures { λ r. ⌜ r ≡ madeCode m ⌝ }
@@ -41,9 +35,23 @@ pub extern "C" fn proximity_write(
     proof: &[u16],
     out: &mut [u8],
 ) -> u32
-    ensures { λ r. ⌜ ((o : Outcome) × Wrote modulus (now (basis .entry)) (now (word .entry)) (now (proof .entry)) (now (out .entry)) (now (out .exit)) o × (r ≡ writtenCode o)) ⌝ }
+    ensures { λ r. ⌜ ((o : Outcome) × Wrote One modulus (now (basis .entry)) 0 (now (word .entry)) (now (proof .entry)) (now (out .entry)) (now (out .exit)) o × (r ≡ numberOf o)) ⌝ }
 {
-    written_code(stored::write(modulus, basis, word, proof, out))
+    filing::number_of(filing::write(modulus, basis, word, proof, out)) as u32
+}
+
+#[no_mangle]
+pub extern "C" fn proximity_write_form_two(
+    modulus: u32,
+    basis: &[u16],
+    shift: u16,
+    word: &[u16],
+    proof: &[u16],
+    out: &mut [u8],
+) -> u32
+    ensures { λ r. ⌜ ((o : Outcome) × Wrote Two modulus (now (basis .entry)) shift (now (word .entry)) (now (proof .entry)) (now (out .entry)) (now (out .exit)) o × (r ≡ numberOf o)) ⌝ }
+{
+    filing::number_of(filing::write_form_two(modulus, basis, shift, word, proof, out)) as u32
 }
 
 #[no_mangle]
@@ -122,7 +130,7 @@ fn byte_at(part: &[u8], at: u64, number: u8) -> u32
 // Byte `at` of the word's part of a stored file; past its end 256 and the number of the refusal.
 #[no_mangle]
 pub extern "C" fn proximity_word_byte(file: &[u8], at: u64) -> u32
-    ensures { λ r. ⌜ PartByte (now (file .entry)) (wordAt (dimIn (now (file .entry)))) (2 * 2 ^ dimIn (now (file .entry))) at r ⌝ }
+    ensures { λ r. ⌜ PartByte (now (file .entry)) (wordStart (formIn (now (file .entry))) (dimIn (now (file .entry)))) (packedSize (narrowIn (now (file .entry))) (2 ^ dimIn (now (file .entry)))) at r ⌝ }
 {
     let mut number: u8 = 0;
     let part = stored::word_part(file, &mut number);
@@ -132,7 +140,7 @@ pub extern "C" fn proximity_word_byte(file: &[u8], at: u64) -> u32
 // The same of the proof's part.
 #[no_mangle]
 pub extern "C" fn proximity_proof_byte(file: &[u8], at: u64) -> u32
-    ensures { λ r. ⌜ PartByte (now (file .entry)) (proofAt (dimIn (now (file .entry)))) (2 * S (dimIn (now (file .entry)))) at r ⌝ }
+    ensures { λ r. ⌜ PartByte (now (file .entry)) (proofStart (formIn (now (file .entry))) (degreeIn (now (file .entry))) (dimIn (now (file .entry)))) (packedSize (narrowIn (now (file .entry))) (S (dimIn (now (file .entry))))) at r ⌝ }
 {
     let mut number: u8 = 0;
     let part = stored::proof_part(file, &mut number);

@@ -1,10 +1,30 @@
-// The places that the readers of a stored file hand back.
+// What the readers of a stored file hand back.
+use stored::Form;
 use stored::Reading;
 ghost use mathlib.Core.Path.{_≡_};
 ghost use Rattle.stored.specs.Reader.{prefixChecks, fileChecks, Told};
-ghost use Rattle.exports.specs.Places.{placeOf};
+ghost use Rattle.exports.specs.Places.{formCode, symbolBytes, placeOf};
 
-// A place by its number: the refusal, then where the word, the proof and the end are.
+fn form_code(form: Form) -> u64
+    ensures { λ x. ⌜ x ≡ formCode form ⌝ }
+{
+    match form {
+        Form::One => 1,
+        Form::Two => 2,
+    }
+}
+
+fn symbol_bytes(narrow: bool) -> u64
+    ensures { λ x. ⌜ x ≡ symbolBytes narrow ⌝ }
+{
+    if narrow {
+        return 1;
+    }
+    2
+}
+
+// A number by its place: the refusal, where the word, the proof and the end are, the form, the bytes
+// of a symbol, and the shift.
 fn place(r: Reading, which: u32) -> u64
     ensures { λ x. ⌜ x ≡ placeOf r which ⌝ }
 {
@@ -12,11 +32,17 @@ fn place(r: Reading, which: u32) -> u64
     let word = r.word;
     let proof = r.proof;
     let end = r.end;
+    let form = r.form;
+    let narrow = r.narrow;
+    let setting = r.setting;
     match which {
         0 => refusal as u64,
         1 => word as u64,
         2 => proof as u64,
-        _ => end as u64,
+        3 => end as u64,
+        4 => form_code(form),
+        5 => symbol_bytes(narrow),
+        _ => setting.shift as u64,
     }
 }
 

@@ -3,13 +3,16 @@ use mathlib.Core.Path.{_≡_}
 use mathlib.Core.Logic.{_⊎_}
 use mathlib.Core.List.{List}
 use Prim.Native.Nat.{ℕ}
-use Rattle.lists.specs.Answers.{Passes}
+use Rattle.lists.specs.Answers.{Passes, Refuses}
 use Rattle.proximity.specs.Dim.{R}
 use Rattle.verifier.specs.declared.Verdict.{Verdict}
 use Rattle.verifier.specs.declared.Verdict.the-variants.{Accept, Reject, Refused}
 use Rattle.stored.specs.Check.{AnsweredFile}
 use Rattle.stored.specs.File.{dimIn}
 use Rattle.stored.specs.Reader.{fileChecks}
+use Rattle.filing.specs.Convert.{convertedEnd, shiftChecks, Converted}
+use Rattle.filing.specs.Filed.{numberOf}
+use Rattle.filing.specs.declared.Outcome.{Outcome}
 
 -- 0 for accept, 100 for reject, else the number of the refusal
 abbrev pub codeOf : Verdict → ℕ
@@ -30,3 +33,13 @@ HostAnswer f coin before after r = (v : Verdict) × AnsweredFile f coin v × (r 
 -- R of an accepted file's dimension, and 0 for a refused one
 abbrev pub CoinBits : List ℕ → ℕ → Type 0
 CoinBits f r = (Passes (fileChecks f) × (r ≡ R (dimIn f))) ⊎ ((Passes (fileChecks f) → ⊥) × (r ≡ 0))
+
+-- ---- the converter
+
+-- 0 or the number of the refusal, and the lent output before and after
+abbrev pub HostConverted : List ℕ → List ℕ → List ℕ → ℕ → Type 0
+HostConverted f old new r = (o : Outcome) × Converted f old new o × (r ≡ numberOf o)
+
+-- 0 and the length of the file in the other form, or the number of the refusal; then the lent number is as it came
+abbrev pub HostLength : List ℕ → ℕ → ℕ → ℕ → Type 0
+HostLength f before after r = (Passes (shiftChecks f) × (r ≡ 0) × (after ≡ convertedEnd f)) ⊎ (Refuses (shiftChecks f) r × (after ≡ before))

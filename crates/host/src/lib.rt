@@ -1,11 +1,11 @@
-// The host kit: the checker over stored files, for programs in C. A file is lent as its bytes; an
+// The host kit: the checker over stored files and their converter, for programs in C. A file is lent as its bytes; an
 // answer is a number: definitions in specs/Answer.antt say which. include/proximity.h declares the
 // calls.
 use proximity::tables;
 use verifier::Verdict;
 ghost use Rattle.lists.specs.Answers.{Answers};
 ghost use Rattle.stored.specs.Reader.{fileChecks};
-ghost use Rattle.host.specs.Answer.{CoinBits, HostAnswer};
+ghost use Rattle.host.specs.Answer.{CoinBits, HostAnswer, HostConverted, HostLength};
 
 // The number of the first check that refuses the file, or 0.
 //
@@ -56,4 +56,33 @@ pub extern "C" fn proximity_check_file(file: &[u8], coin: u64, reads: &mut u32) 
         }
         Verdict::Refused(n) => n as u32,
     }
+}
+
+// How many bytes a file has in the other form: 0, and the length in `converted`; or the number of a
+// refusal (the file's checks, then 14), which leaves `converted` as it came.
+//
+// Ruled out: the length of the file itself; a length that a refused call writes.
+#[no_mangle]
+pub extern "C" fn proximity_converted_length(file: &[u8], converted: &mut usize) -> u32
+    ensures { λ r. ⌜ HostLength (now (file .entry)) (now (converted .entry)) (now (converted .exit)) r ⌝ }
+{
+    let found = filing::converted_length(file);
+    let number = found.refusal;
+    let length = found.length;
+    if number != 0 {
+        return number as u32;
+    }
+    *converted = length;
+    0
+}
+
+// Writes a file in the other form: 0, or the number of a refusal (the file's checks, 14, then 6 for an
+// output of another length), which leaves the output as it came.
+//
+// Ruled out: 0 for an output that is not the whole file; an output that a refused call changes.
+#[no_mangle]
+pub extern "C" fn proximity_convert(file: &[u8], out: &mut [u8]) -> u32
+    ensures { λ r. ⌜ HostConverted (now (file .entry)) (now (out .entry)) (now (out .exit)) r ⌝ }
+{
+    filing::number_of(filing::convert(file, out)) as u32
 }

@@ -1,6 +1,7 @@
-// Makes a delivery: reads a message file on standard input and writes its stored file on standard
-// output. The number that refuses it, and a write that failed, go to standard error. No message has
-// 4096 bytes, so an input that goes past the buffer gets the number that all of it would get.
+// Makes a delivery: reads a message file of either form on standard input and writes its stored file
+// on standard output. The number that refuses it, and a write that failed, go to standard error. No
+// message has 4096 bytes, so an input that goes past the buffer gets the number that all of it would
+// get.
 use delivery::Made;
 use libc::STDERR_FILENO;
 use libc::STDIN_FILENO;

@@ -8,17 +8,15 @@ use lib.ListN.{length, take, drop, take-append-drop}
 use lib.Seq.{take-at, drop-append-le}
 use Rattle.lists.specs.Alike.{Alike, alike-answers}
 use Rattle.lists.specs.Answers.{Passes, passes-each}
-use Rattle.field.specs.Binary.{degree}
-use Rattle.space.specs.Sizes.{maxDim}
 use Rattle.stored.specs.Accepted.{Accepted, accepted, setting-numbered, prefix-passes}
-use Rattle.stored.specs.File.{wordRecordAt, fileEnd, modulusIn, dimIn}
+use Rattle.stored.specs.File.{wordRecordAt, formIn, degreeIn, dimIn, endIn}
 use Rattle.stored.specs.Reader.{settingChecks, symbolChecks, fileChecks}
 use Rattle.coins.specs.Answer.{counted-file, counted-length}
 use Rattle.coins.specs.Totals.{Swept, countChecks}
 use Rattle.report.specs.Bounds.{told-bounded}
 use Rattle.report.specs.Entry.{entryChecks, fileIn, Told}
-use Rattle.report.specs.EntryLaws.{setting-inside, records-answer, entry-counted, file-length}
-use Rattle.report.specs.Prefix.{dimension, setting-alike, symbol-alike}
+use Rattle.report.specs.EntryLaws.{records-answer, entry-counted, file-length}
+use Rattle.report.specs.Prefix.{same-end, setting-alike, symbol-alike}
 use Rattle.report.specs.Report.{mostFiles, Entries, Reported}
 use Rattle.report.specs.Total.{sumOf, totalOf}
 use Rattle.report.specs.TotalLaws.{accepted-all, accepted-none}
@@ -40,27 +38,27 @@ module _ (f t : List ℕ) (p : Passes (countChecks f)) where
   held : Accepted f
   held = accepted f file-passes
 
-  wide : wordRecordAt maxDim ≤ length f
-  wide = omega (arith, held .whole, setting-inside (dimIn f) (held .records .head .low))
+  start : 7 ≤ length f
+  start = omega (arith, held .records .head .opened .present)
 
-  dim-same : dimIn f ≡ dimIn s
-  dim-same = subst (λ (g : List ℕ). dimIn g ≡ dimIn s) front (dimension (length f) s wide)
+  ends : endIn s ≡ length f
+  ends = sym (subst (λ (g : List ℕ). endIn g ≡ endIn s) front (same-end (length f) s start)) ∙ sym (held .whole)
 
-  ends : fileEnd (dimIn s) ≡ length f
-  ends = ap (λ (j : ℕ). fileEnd j) (sym dim-same) ∙ sym (held .whole)
+  inside : wordRecordAt (formIn s) (dimIn s) ≤ length f
+  inside = omega (arith, ends)
 
   -- bytes that follow are no refusal
   pub following-passes : Passes (entryChecks s)
   following-passes =
-      let parts = passes-each (settingChecks f) (symbolChecks f (dimIn f) (degree (modulusIn f))) (setting-numbered f) (prefix-passes f (held .records)) in
+      let parts = passes-each (settingChecks f) (symbolChecks (formIn f) f (dimIn f) (degreeIn f)) (setting-numbered f) (prefix-passes f (held .records)) in
       records-answer s 0
-      (alike-answers (settingChecks f) (settingChecks s) (subst (λ (g : List ℕ). Alike (settingChecks g) (settingChecks s)) front (setting-alike (length f) s wide)) 0 (parts .0))
+      (alike-answers (settingChecks f) (settingChecks s) (subst (λ (g : List ℕ). Alike (settingChecks g) (settingChecks s)) front (setting-alike (length f) s start (λ _. inside))) 0 (parts .0))
       (omega (arith, ends, counted-length f p))
-      (alike-answers (symbolChecks f (dimIn f) (degree (modulusIn f))) (symbolChecks s (dimIn s) (degree (modulusIn s)))
-      (subst (λ (g : List ℕ). Alike (symbolChecks g (dimIn g) (degree (modulusIn g))) (symbolChecks s (dimIn s) (degree (modulusIn s)))) front (symbol-alike (length f) s wide (omega (arith, ends)))) 0 (parts .1))
+      (alike-answers (symbolChecks (formIn f) f (dimIn f) (degreeIn f)) (symbolChecks (formIn s) s (dimIn s) (degreeIn s))
+      (subst (λ (g : List ℕ). Alike (symbolChecks (formIn g) g (dimIn g) (degreeIn g)) (symbolChecks (formIn s) s (dimIn s) (degreeIn s))) front (symbol-alike (length f) s start (omega (arith, ends)))) 0 (parts .1))
 
   -- and the next file begins where this one ends
-  pub following-file : (fileIn s ≡ f) × (fileEnd (dimIn s) ≡ length f)
+  pub following-file : (fileIn s ≡ f) × (endIn s ≡ length f)
   following-file = (ap (λ (n : ℕ). take n s) ends ∙ front, ends)
 
 -- ---- a longer stream
@@ -70,7 +68,7 @@ told-longer : (s u : List ℕ) (e : Entry) → Told s e → e .refusal ≡ 0 →
 told-longer s u e (inr ((l, a), g)) z = absurd (omega arith)
 told-longer s u e (inl (p, y, t, g)) z =
     let f = fileIn s in
-    let n = fileEnd (dimIn s) in
+    let n = endIn s in
     let c = entry-counted s p in
     let same : f ++ (drop n s ++ u) ≡ s ++ u = sym (append-assoc f (drop n s) u) ∙ ap (λ (xs : List ℕ). xs ++ u) (take-append-drop n s) in
     let (file, end) = following-file f (drop n s ++ u) c in

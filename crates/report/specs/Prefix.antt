@@ -1,13 +1,16 @@
 -- The checks of the file at the front of a stream look at no byte past it. Assumes nothing.
-use mathlib.Core.Path.{_≡_, refl, sym, ap, ap₂, _∙_, subst}
+use mathlib.Core.Path.{_≡_, refl, sym, ap, ap₂, _∙_, subst, transport}
 use mathlib.Core.Logic.{_⊎_, inr, _↔_}
+use mathlib.Core.Bool.{Bool, true, false}
 use mathlib.Core.List.{List}
 use Prim.Native.Nat.{ℕ, _+_, _*_, _^_, _≤_, _<_}
 use native.Mathlib.Omega.{arith}
+use lib.Dec.{eqb}
 use lib.ListN.{length, getD, take, length-take}
 use lib.Seq.{getD-take}
 use Rattle.lists.specs.All.{Below}
 use Rattle.lists.specs.Alike.{Alike, alike-path, alike-append, iff-not, iff-path}
+use Rattle.lists.specs.Pick.{pick}
 use Rattle.lists.specs.Tables.{tab-ext}
 use Rattle.field.specs.Binary.{degree}
 use Rattle.field.specs.Checks.{modulusChecks, not-less}
@@ -16,10 +19,13 @@ use Rattle.poly.specs.Span.{Independent}
 use Rattle.space.specs.Setting.{settingOf}
 use Rattle.space.specs.Sizes.{maxDim}
 use Rattle.proximity.specs.Dim.{S}
-use Rattle.stored.specs.Bytes.{twoAt, fourAt, numbersAt}
-use Rattle.stored.specs.File.{wordRecordAt, wordAt, proofRecordAt, proofAt, fileEnd, modulusIn, dimIn, basisIn, Opens}
-use Rattle.stored.specs.Passed.{head-passed}
+use Rattle.stored.specs.Bytes.{packedSize, twoAt, fourAt, numberAt, numbersAt}
+use Rattle.stored.specs.File.{settingMark, wordMark, proofMark, narrowOf, wordRecordAt, wordStart, proofRecordAt, proofStart, fileEnd, formIn, modulusIn, degreeIn, dimIn, basisIn, shiftAt, shiftIn, endIn, Opens}
+use Rattle.stored.specs.Packed.{size-more}
+use Rattle.stored.specs.Passed.{basis-first, head-passed}
 use Rattle.stored.specs.Reader.{lateChecks, headChecks, basisChecks, settingChecks, recordChecks, wordChecks, proofChecks, symbolChecks, readOf}
+use Rattle.stored.specs.declared.Form.{Form}
+use Rattle.stored.specs.declared.Form.the-variants.{One, Two}
 
 -- the first n bytes of the stream s
 module _ (n : ℕ) (s : List ℕ) where
@@ -37,8 +43,12 @@ module _ (n : ℕ) (s : List ℕ) where
   unfolding fourAt
   four p h = ap₂ (λ (a b : ℕ). a + 65536 * b) (two p (omega arith)) (two (p + 2) (omega arith))
 
-  numbers : (p c : ℕ) → p + 2 * c ≤ n → numbersAt f p c ≡ numbersAt s p c
-  numbers p c h = tab-ext c (λ i. twoAt f (p + 2 * i)) (λ i. twoAt s (p + 2 * i)) (λ i l. two (p + 2 * i) (omega arith))
+  number : (t : Bool) (p i : ℕ) → p + packedSize t (i + 1) ≤ n → numberAt t f p i ≡ numberAt t s p i
+  number true p i h = byte (p + i) (omega arith)
+  number false p i h = two (p + 2 * i) (omega arith)
+
+  numbers : (t : Bool) (p c : ℕ) → p + packedSize t c ≤ n → numbersAt t f p c ≡ numbersAt t s p c
+  numbers t p c h = tab-ext c (λ i. numberAt t f p i) (λ i. numberAt t s p i) (λ i l. number t p i (omega (arith, size-more t l)))
 
   shorter : (p : ℕ) → p ≤ n → (length f < p) ↔ (length s < p)
   shorter p h = ((λ l. omega (arith, length-take n s)), λ l. omega (arith, length-take n s))
@@ -49,8 +59,8 @@ module _ (n : ℕ) (s : List ℕ) where
     λ o. record { present = omega (arith, o .present, length-take n s); first = byte p (omega arith) ∙ o .first; second = byte (p + 1) (omega arith) ∙ o .second },
   )
 
-  record-alike : (p a b c l : ℕ) → p + 6 + 2 * c ≤ n → Alike (recordChecks f p a b c l) (recordChecks s p a b c l)
-  record-alike p a b c l h = (
+  record-alike : (t : Bool) (p a b c l : ℕ) → p + 6 + packedSize t c ≤ n → Alike (recordChecks t f p a b c l) (recordChecks t s p a b c l)
+  record-alike t p a b c l h = (
     refl,
     iff-not (opens p 6 a b (omega arith) (omega arith)),
     λ _. (
@@ -58,8 +68,8 @@ module _ (n : ℕ) (s : List ℕ) where
       iff-not (iff-path (λ x. x ≡ c) (four (p + 2) (omega arith))),
       λ _. (
         refl,
-        shorter (p + 6 + 2 * c) h,
-        λ _. (refl, iff-not (same (numbers (p + 6) c h)), λ _. tt),
+        shorter (p + 6 + packedSize t c) h,
+        λ _. (refl, iff-not (same (numbers t (p + 6) c h)), λ _. tt),
       ),
     ),
   )
@@ -67,74 +77,100 @@ module _ (n : ℕ) (s : List ℕ) where
       same : {xs ys : List ℕ} → xs ≡ ys → Below (2 ^ l) xs ↔ Below (2 ^ l) ys
       same e = (subst (Below (2 ^ l)) e, subst (Below (2 ^ l)) (sym e))
 
-  -- a setting record of the largest dimension is among them
-  module _ (room : wordRecordAt maxDim ≤ n) where
-    pub modulus : modulusIn f ≡ modulusIn s
+  records-alike : (g : Form) (k l : ℕ) → fileEnd g l k ≤ n → Alike (symbolChecks g f k l) (symbolChecks g s k l)
+  records-alike g k l h =
+      alike-append (wordChecks g f k l) (wordChecks g s k l) (proofChecks g f k l) (proofChecks g s k l)
+      (record-alike (narrowOf g l) (wordRecordAt g k) 87 (wordMark g) (2 ^ k) l (omega arith))
+      (λ _. record-alike (narrowOf g l) (proofRecordAt g l k) 80 (proofMark g) (S k) l h)
+
+  -- mark, modulus and k are among them
+  module _ (start : 7 ≤ n) where
+    form : formIn f ≡ formIn s
+    unfolding formIn
+    form = ap (λ (b : ℕ). pick (eqb b (settingMark Two)) Two One) (byte 1 (omega arith))
+
+    modulus : modulusIn f ≡ modulusIn s
     modulus = four 2 (omega arith)
 
     pub dimension : dimIn f ≡ dimIn s
     dimension = byte 6 (omega arith)
 
-    late-alike : Alike (lateChecks f) (lateChecks s)
-    late-alike = (
-      refl,
-      iff-path (λ k. (k < 3) ⊎ (maxDim < k)) dimension,
-      λ g. (
-        refl,
-        let h : dimIn f ≤ maxDim = not-less (λ l. g (inr l)) in
-            let w = shorter (wordRecordAt (dimIn f)) (omega arith) in
-            ((λ l. omega (arith, w .0 l, dimension)), λ l. w .1 (omega (arith, dimension))),
-        λ _. tt,
-      ),
-    )
+    pub same-end : endIn f ≡ endIn s
+    same-end = λ i. fileEnd (form i) (degree (modulus i)) (dimension i)
 
-    head-alike : Alike (headChecks f) (headChecks s)
-    head-alike = (
-      refl,
-      iff-not (opens 0 7 83 69 (omega arith) (omega arith)),
-      λ _. alike-append (modulusChecks (modulusIn f)) (modulusChecks (modulusIn s)) (lateChecks f) (lateChecks s) (alike-path modulusChecks modulus) (λ _. late-alike),
-    )
-
-    basis : dimIn f ≤ maxDim → basisIn f ≡ basisIn s
-    unfolding basisIn
-    basis h = ap (numbersAt f 7) dimension ∙ numbers 7 (dimIn s) (omega (arith, dimension))
-
-    basis-alike : dimIn f ≤ maxDim → Alike (basisChecks f) (basisChecks s)
-    basis-alike h = (
-      refl,
-      iff-not (both (λ m bs. Below (2 ^ degree m) bs)),
-      λ _. (refl, iff-not (both (λ m bs. Independent (symbols m) bs)), λ _. tt),
-    )
-      where
-        both : (T : ℕ → List ℕ → Type 0) → T (modulusIn f) (basisIn f) ↔ T (modulusIn s) (basisIn s)
-        both T = (
-          (λ t. subst (λ (m : ℕ). T m (basisIn s)) modulus (subst (T (modulusIn f)) (basis h) t)),
-          λ t. subst (T (modulusIn f)) (sym (basis h)) (subst (λ (m : ℕ). T m (basisIn s)) (sym modulus) t),
-        )
-
-    pub setting-alike : Alike (settingChecks f) (settingChecks s)
-    setting-alike =
-        alike-append (headChecks f) (headChecks s) (basisChecks f) (basisChecks s) head-alike
-        (λ p. basis-alike (head-passed f p .high))
-
-    pub symbol-alike : fileEnd (dimIn s) ≤ n → Alike (symbolChecks f (dimIn f) (degree (modulusIn f))) (symbolChecks s (dimIn s) (degree (modulusIn s)))
+    -- the two records past the setting's
+    pub symbol-alike : endIn s ≤ n → Alike (symbolChecks (formIn f) f (dimIn f) (degreeIn f)) (symbolChecks (formIn s) s (dimIn s) (degreeIn s))
     symbol-alike h =
-        subst (λ (k : ℕ). Alike (symbolChecks f k (degree (modulusIn f))) (symbolChecks s (dimIn s) (degree (modulusIn s)))) (sym dimension)
-        (subst (λ (m : ℕ). Alike (symbolChecks f (dimIn s) (degree m)) (symbolChecks s (dimIn s) (degree (modulusIn s)))) (sym modulus)
-        (alike-append (wordChecks f k l) (wordChecks s k l) (proofChecks f k l) (proofChecks s k l)
-        (record-alike (wordRecordAt k) 87 79 (2 ^ k) l (omega arith)) (λ _. record-alike (proofRecordAt k) 80 70 (S k) l h)))
-      where
-        k : ℕ
-        k = dimIn s
+        transport (λ i. Alike (symbolChecks (sym form i) f (sym dimension i) (degree (sym modulus i))) (symbolChecks (formIn s) s (dimIn s) (degreeIn s)))
+        (records-alike (formIn s) (dimIn s) (degreeIn s) h)
 
-        l : ℕ
-        l = degree (modulusIn s)
+    -- the setting record is among them
+    module _ (h : wordRecordAt (formIn s) (dimIn s) ≤ n) where
+      basis : basisIn f ≡ basisIn s
+      unfolding basisIn
+      basis = ap (numbersAt false f 7) dimension ∙ numbers false 7 (dimIn s) (omega (arith, basis-first (formIn s) (dimIn s)))
 
-    -- what a reader hands back of them
-    pub read-alike : dimIn f ≤ maxDim → readOf f ≡ readOf s
-    unfolding readOf
-    read-alike h =
-        let m = modulus in
-        let d = dimension in
-        let b = basis h in
-        λ i. record { refusal = 0; setting = settingOf (m i) (b i) 0; word = wordAt (d i); proof = proofAt (d i); end = fileEnd (d i) }
+      shift-at : (g : Form) → wordRecordAt g (dimIn s) ≤ n → shiftAt g f ≡ shiftAt g s
+      shift-at One l = refl
+      shift-at Two l = ap (λ (k : ℕ). twoAt f (7 + 2 * k)) dimension ∙ two (7 + 2 * dimIn s) (omega arith)
+
+      shift : shiftIn f ≡ shiftIn s
+      unfolding shiftIn
+      shift = ap (λ (g : Form). shiftAt g f) form ∙ shift-at (formIn s) h
+
+      basis-alike : Alike (basisChecks f) (basisChecks s)
+      basis-alike = (
+        refl,
+        iff-not (all (λ m bs σ. Below (2 ^ degree m) bs)),
+        λ _. (refl, iff-not (all (λ m bs σ. σ < 2 ^ degree m)), λ _. (refl, iff-not (all (λ m bs σ. Independent (symbols m) bs)), λ _. tt)),
+      )
+        where
+          all : (T : ℕ → List ℕ → ℕ → Type 0) → T (modulusIn f) (basisIn f) (shiftIn f) ↔ T (modulusIn s) (basisIn s) (shiftIn s)
+          all T = (transport (λ i. T (modulus i) (basis i) (shift i)), transport (λ i. T (sym modulus i) (sym basis i) (sym shift i)))
+
+      -- what a reader hands back of them
+      pub read-alike : readOf f ≡ readOf s
+      unfolding readOf
+      read-alike =
+          let g = form in
+          let m = modulus in
+          let d = dimension in
+          let b = basis in
+          let σ = shift in
+          λ i. record {
+            refusal = 0;
+            form = g i;
+            setting = settingOf (m i) (b i) (σ i);
+            narrow = narrowOf (g i) (degree (m i));
+            word = wordStart (g i) (d i);
+            proof = proofStart (g i) (degree (m i)) (d i);
+            end = same-end i;
+          }
+
+    -- it is among them where its dimension is in range
+    module _ (room : dimIn s ≤ maxDim → wordRecordAt (formIn s) (dimIn s) ≤ n) where
+      late-alike : Alike (lateChecks f) (lateChecks s)
+      late-alike = (
+        refl,
+        iff-path (λ k. (k < 3) ⊎ (maxDim < k)) dimension,
+        λ g. (
+          refl,
+          let h : dimIn f ≤ maxDim = not-less (λ l. g (inr l)) in
+              let w = shorter (wordRecordAt (formIn s) (dimIn s)) (room (omega (arith, dimension))) in
+              let size : wordRecordAt (formIn f) (dimIn f) ≡ wordRecordAt (formIn s) (dimIn s) = ap₂ wordRecordAt form dimension in
+              ((λ l. w .0 (omega (arith, size))), λ l. omega (arith, w .1 l, size)),
+          λ _. tt,
+        ),
+      )
+
+      head-alike : Alike (headChecks f) (headChecks s)
+      head-alike = (
+        refl,
+        iff-not (subst (λ (g : Form). Opens f 0 7 83 (settingMark g) ↔ Opens s 0 7 83 (settingMark (formIn s))) (sym form) (opens 0 7 83 (settingMark (formIn s)) (omega arith) (omega arith))),
+        λ _. alike-append (modulusChecks (modulusIn f)) (modulusChecks (modulusIn s)) (lateChecks f) (lateChecks s) (alike-path modulusChecks modulus) (λ _. late-alike),
+      )
+
+      pub setting-alike : Alike (settingChecks f) (settingChecks s)
+      setting-alike =
+          alike-append (headChecks f) (headChecks s) (basisChecks f) (basisChecks s) head-alike
+          (λ p. basis-alike (room (omega (arith, dimension, head-passed f p .high))))

@@ -3,6 +3,7 @@ pub mod window;
 
 use coins::tally;
 use stored::FILE_LIMIT;
+use stored::forms;
 use stored::records;
 ghost use mathlib.Core.Path.{_≡_};
 ghost use Rattle.lists.specs.Decides.{Decides};
@@ -65,7 +66,8 @@ pub fn front(bytes: &[u8]) -> Entry
     if early != 0 {
         return refused(early);
     }
-    if FILE_LIMIT < stored::file_end(setting.space.k) {
+    let p = forms::layout(forms::form_of(bytes), setting.field, setting.space.k);
+    if FILE_LIMIT < p.end {
         return refused(6);
     }
     let r = stored::read_symbols(bytes, setting);

@@ -1,7 +1,8 @@
 -- What the checker over stored bytes answers: the file's checks, then 8, and then the verdict on the word and the proof of the file. Definitions only.
 use mathlib.Core.Path.{_≡_}
+use mathlib.Core.Bool.{Bool}
 use mathlib.Core.List.{List, [], _∷_, _++_}
-use Prim.Native.Nat.{ℕ, _+_, _*_, _^_, _≤_}
+use Prim.Native.Nat.{ℕ, _+_, _^_, _≤_}
 use lib.ListN.{length}
 use Rattle.lists.specs.Answers.{Checks}
 use Rattle.field.specs.Laws.{Ops}
@@ -12,6 +13,7 @@ use Rattle.proximity.specs.Verifier.{Accepts}
 use Rattle.verifier.specs.Checker.{readsOf, Answered}
 use Rattle.verifier.specs.declared.Verdict.{Verdict}
 use Rattle.verifier.specs.declared.Verdict.the-variants.{Accept, Reject, Refused}
+use Rattle.stored.specs.Bytes.{packedSize}
 use Rattle.stored.specs.File.{modulusIn, dimIn, basisIn, wordIn, proofIn}
 use Rattle.stored.specs.Reader.{fileChecks}
 
@@ -24,11 +26,11 @@ AnsweredFile f coin = Answered (coinChecks f coin) (symbols (modulusIn f)) (dimI
 
 -- ---- past the checks
 
--- the symbols of a word and a proof of dimension k stand in the bytes f at the two places
-pub record Laid (f : List ℕ) (k word proof : ℕ) : Type 0 where
+-- the symbols of a word and a proof of dimension k stand in the bytes f at the two places, one byte each (true) or two
+pub record Laid (t : Bool) (f : List ℕ) (k word proof : ℕ) : Type 0 where
   pub few : k ≤ maxDim
-  pub word-fits : word + 2 * 2 ^ k ≤ length f
-  pub proof-fits : proof + 2 * S k ≤ length f
+  pub word-fits : word + packedSize t (2 ^ k) ≤ length f
+  pub proof-fits : proof + packedSize t (S k) ≤ length f
 
 -- the verdict
 abbrev pub Judged : Ops → ℕ → List ℕ → List ℕ → List ℕ → ℕ → Verdict → Type 0

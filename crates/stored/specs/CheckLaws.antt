@@ -1,6 +1,7 @@
 -- The answer over stored bytes, from the reading and the verdict. Assumes nothing.
 use mathlib.Core.Path.{_≡_, refl, sym, ap, _∙_, subst, transport}
 use mathlib.Core.Logic.{inl, inr}
+use mathlib.Core.Bool.{Bool}
 use mathlib.Core.List.{List, [], _∷_}
 use Prim.Native.Nat.{ℕ, _^_, _≤_, _<_}
 use native.Mathlib.Omega.{arith}
@@ -21,7 +22,7 @@ use Rattle.verifier.specs.declared.Verdict.the-variants.{Accept, Reject, Refuse
 use Rattle.stored.specs.Accepted.{Accepted, accepted, setting-passes, setting-ready, prefix-numbered, Places, read-places, told-accepted, told-refuses}
 use Rattle.stored.specs.Bytes.{numbersAt}
 use Rattle.stored.specs.Check.{coinChecks, AnsweredFile, Laid, Judged}
-use Rattle.stored.specs.File.{fileEnd, modulusIn, dimIn, basisIn, wordIn, proofIn}
+use Rattle.stored.specs.File.{modulusIn, dimIn, basisIn, narrowIn, wordIn, proofIn, endIn}
 use Rattle.stored.specs.Passed.{length-basis}
 use Rattle.stored.specs.Reader.{prefixChecks, fileChecks, readOf, Told}
 use Rattle.stored.specs.declared.Reading.{Reading}
@@ -33,7 +34,7 @@ module _ (f : List ℕ) (coin : ℕ) where
   eight = (8, 2 ^ R (dimIn f) ≤ coin) ∷ []
 
   file-numbered : Numbered (fileChecks f)
-  file-numbered = numbered-append (prefixChecks f) ((12, fileEnd (dimIn f) < length f) ∷ []) (prefix-numbered f) (omega arith, tt)
+  file-numbered = numbered-append (prefixChecks f) ((12, endIn f < length f) ∷ []) (prefix-numbered f) (omega arith, tt)
 
   -- a refused file, and a coin out of range
   pub refused-file : (r : Reading) → Told (fileChecks f) f r → (r .refusal ≡ 0 → ⊥) → Refuses (coinChecks f coin) (r .refusal)
@@ -88,27 +89,28 @@ module _ (f : List ℕ) (r : Reading) (t : Told (fileChecks f) f r) (z : r .refu
   read-space =
       subst (λ (k : ℕ). InSpace (r .setting .field) k (r .setting .space .images)) (sym (read-ready .dimension)) (ready-space read-ready)
 
-  pub read-laid : Laid f (r .setting .space .k) (r .word) (r .proof)
+  pub read-laid : Laid (r .narrow) f (r .setting .space .k) (r .word) (r .proof)
   read-laid =
-      subst (λ (k : ℕ). Laid f k (r .word) (r .proof)) (sym read-dimension)
+      subst (λ (t : Bool). Laid t f (r .setting .space .k) (r .word) (r .proof)) (sym (places .narrow))
+      (subst (λ (k : ℕ). Laid (narrowIn f) f k (r .word) (r .proof)) (sym read-dimension)
       (record {
         few = held .records .head .high;
         word-fits = omega (arith, places .word, held .records .word .present);
         proof-fits = omega (arith, places .proof, held .records .proof .present);
-      })
+      }))
 
-  pub read-below : Below (2 ^ degree (r .setting .field .modulus)) (numbersAt f (r .word) (2 ^ r .setting .space .k))
-      × Below (2 ^ degree (r .setting .field .modulus)) (numbersAt f (r .proof) (S (r .setting .space .k)))
+  pub read-below : Below (2 ^ degree (r .setting .field .modulus)) (numbersAt (r .narrow) f (r .word) (2 ^ r .setting .space .k))
+      × Below (2 ^ degree (r .setting .field .modulus)) (numbersAt (r .narrow) f (r .proof) (S (r .setting .space .k)))
   read-below = (
-    transport (λ i. Below (2 ^ degree (sym modulus i)) (numbersAt f (sym (places .word) i) (2 ^ sym read-dimension i))) (held .records .word .symbols),
-    transport (λ i. Below (2 ^ degree (sym modulus i)) (numbersAt f (sym (places .proof) i) (S (sym read-dimension i)))) (held .records .proof .symbols),
+    transport (λ i. Below (2 ^ degree (sym modulus i)) (numbersAt (sym (places .narrow) i) f (sym (places .word) i) (2 ^ sym read-dimension i))) (held .records .word .symbols),
+    transport (λ i. Below (2 ^ degree (sym modulus i)) (numbersAt (sym (places .narrow) i) f (sym (places .proof) i) (S (sym read-dimension i)))) (held .records .proof .symbols),
   )
 
   -- the verdict is that on the word and the proof of the file
   pub read-answer : (coin : ℕ) → coin < 2 ^ R (dimIn f) → (v : Verdict)
-      → Judged (symbols (r .setting .field .modulus)) (r .setting .space .k) (basisIn f) (numbersAt f (r .word) (2 ^ r .setting .space .k)) (numbersAt f (r .proof) (S (r .setting .space .k))) coin v
+      → Judged (symbols (r .setting .field .modulus)) (r .setting .space .k) (basisIn f) (numbersAt (r .narrow) f (r .word) (2 ^ r .setting .space .k)) (numbersAt (r .narrow) f (r .proof) (S (r .setting .space .k))) coin v
       → AnsweredFile f coin v
   unfolding wordIn proofIn
   read-answer coin h v j =
       judged-answer (coinChecks f coin) (symbols (modulusIn f)) (dimIn f) (basisIn f) (wordIn f) (proofIn f) coin v (coin-passes f coin read-passes h)
-      (transport (λ i. Judged (symbols (modulus i)) (read-dimension i) (basisIn f) (numbersAt f (places .word i) (2 ^ read-dimension i)) (numbersAt f (places .proof i) (S (read-dimension i))) coin v) j)
+      (transport (λ i. Judged (symbols (modulus i)) (read-dimension i) (basisIn f) (numbersAt (places .narrow i) f (places .word i) (2 ^ read-dimension i)) (numbersAt (places .narrow i) f (places .proof i) (S (read-dimension i))) coin v) j)

@@ -1,15 +1,13 @@
--- The stored file: its bytes, its records, and what a reader answers.
+-- The stored file: its bytes, its forms and records, and what a reader answers.
 pub mod Bytes
 pub mod File
 pub mod Reader
 pub mod Passed
 pub mod Accepted
 pub mod ByteLaws
+pub mod Packed
 pub mod Whole
 pub mod Written
-pub mod Writer
-pub mod Put
-pub mod WriterLaws
 pub mod Check
 pub mod Leaf
 pub mod CheckLaws

@@ -1,4 +1,4 @@
--- On an accepted file the checker over stored bytes answers as the checker on symbols with the shift 0. Assumes nothing.
+-- On an accepted file the checker over stored bytes answers as the checker on symbols with the setting, the word and the proof of the file. Assumes nothing.
 use mathlib.Core.Path.{_≡_, refl, sym, subst}
 use mathlib.Core.Logic.{_⊎_, _↔_, inl, inr}
 use mathlib.Core.List.{List, _++_}
@@ -19,7 +19,7 @@ use Rattle.verifier.specs.Verdicts.{answered-alike, told-delivery, delivery-pas
 use Rattle.verifier.specs.declared.Verdict.{Verdict}
 use Rattle.stored.specs.Check.{coinChecks, AnsweredFile}
 use Rattle.stored.specs.CheckLaws.{refused-coin, coin-passes}
-use Rattle.stored.specs.File.{modulusIn, dimIn, basisIn, wordIn, proofIn}
+use Rattle.stored.specs.File.{modulusIn, dimIn, basisIn, shiftIn, wordIn, proofIn}
 use Rattle.stored.specs.Leaf.{symbols-below}
 use Rattle.stored.specs.Passed.{length-basis}
 use Rattle.stored.specs.Reader.{fileChecks}
@@ -36,25 +36,25 @@ alike cs ds n coin high low high′ low′ r a = by (decLe n coin)
     by (no h) = subst (Answers ds) (answers-one cs (low (omega (arith, h))) a) (low′ (omega (arith, h)))
 
 -- the checks on symbols, where word and proof are a delivery with all symbols in range
-module _ (m : ℕ) (bs w π : List ℕ) (d : Delivery m bs w π) (coin : ℕ) where
+module _ (m : ℕ) (bs : List ℕ) (σ : ℕ) (w π : List ℕ) (d : Delivery m bs σ w π) (coin : ℕ) where
   abbrev delivery : Checks
   delivery = deliveryChecks (length bs) (length w) (length π) coin
 
   abbrev reading : Checks
   reading = readChecks (symbols m) (length bs) w π coin
 
-  symbols-coin : 2 ^ R (length bs) ≤ coin → Answers (checkerChecks m bs 0 w π coin) 8
+  symbols-coin : 2 ^ R (length bs) ≤ coin → Answers (checkerChecks m bs σ w π coin) 8
   symbols-coin h =
-      told-delivery m bs 0 w π coin (sound-passes m bs 0 (d .setting)) 8 (omega arith) (inr (lengths, inl (h, refl))) .1
+      told-delivery m bs σ w π coin (sound-passes m bs σ (d .setting)) 8 (omega arith) (inr (lengths, inl (h, refl))) .1
     where
       lengths : (length w ≡ 2 ^ length bs → ⊥) ⊎ (length π ≡ S (length bs) → ⊥) → ⊥
       lengths (inl f) = f (d .word)
       lengths (inr f) = f (d .proof)
 
-  symbols-pass : coin < 2 ^ R (length bs) → Passes (checkerChecks m bs 0 w π coin)
+  symbols-pass : coin < 2 ^ R (length bs) → Passes (checkerChecks m bs σ w π coin)
   symbols-pass h =
-      answers-after (settingChecks m bs 0 ++ delivery) reading 0 (numbered-append (settingChecks m bs 0) delivery (setting-numbered m bs 0) (omega arith, (omega arith, tt)))
-      (answers-after (settingChecks m bs 0) delivery 0 (setting-numbered m bs 0) (sound-passes m bs 0 (d .setting)) (delivery-passes (length bs) (length w) (length π) coin (d .word) (d .proof) h))
+      answers-after (settingChecks m bs σ ++ delivery) reading 0 (numbered-append (settingChecks m bs σ) delivery (setting-numbered m bs σ) (omega arith, (omega arith, tt)))
+      (answers-after (settingChecks m bs σ) delivery 0 (setting-numbered m bs σ) (sound-passes m bs σ (d .setting)) (delivery-passes (length bs) (length w) (length π) coin (d .word) (d .proof) h))
       (inr ((λ f. f (symbols-below (2 ^ degree m) w π (pow-pos (degree m)) (d .word-symbols) (d .proof-symbols) (positions (dim (length bs)) coin))), refl))
 
 -- ---- the answers
@@ -64,15 +64,15 @@ module _ (f : List ℕ) (p : Passes (fileChecks f)) (coin : ℕ) where
   onBytes = coinChecks f coin
 
   abbrev onSymbols : Checks
-  onSymbols = checkerChecks (modulusIn f) (basisIn f) 0 (wordIn f) (proofIn f) coin
+  onSymbols = checkerChecks (modulusIn f) (basisIn f) (shiftIn f) (wordIn f) (proofIn f) coin
 
   high : 2 ^ R (dimIn f) ≤ coin → Answers onSymbols 8
   high h =
-      symbols-coin (modulusIn f) (basisIn f) (wordIn f) (proofIn f) (accepted-delivery f p) coin (subst (λ (k : ℕ). 2 ^ R k ≤ coin) (sym (length-basis f)) h)
+      symbols-coin (modulusIn f) (basisIn f) (shiftIn f) (wordIn f) (proofIn f) (accepted-delivery f p) coin (subst (λ (k : ℕ). 2 ^ R k ≤ coin) (sym (length-basis f)) h)
 
   low : coin < 2 ^ R (dimIn f) → Passes onSymbols
   low h =
-      symbols-pass (modulusIn f) (basisIn f) (wordIn f) (proofIn f) (accepted-delivery f p) coin (subst (λ (k : ℕ). coin < 2 ^ R k) (sym (length-basis f)) h)
+      symbols-pass (modulusIn f) (basisIn f) (shiftIn f) (wordIn f) (proofIn f) (accepted-delivery f p) coin (subst (λ (k : ℕ). coin < 2 ^ R k) (sym (length-basis f)) h)
 
   to-symbols : (r : ℕ) → Answers onBytes r → Answers onSymbols r
   to-symbols = alike onBytes onSymbols (2 ^ R (dimIn f)) coin (λ h. refused-coin f coin p h .1) (coin-passes f coin p) high low
@@ -81,7 +81,7 @@ module _ (f : List ℕ) (p : Passes (fileChecks f)) (coin : ℕ) where
   to-bytes = alike onSymbols onBytes (2 ^ R (dimIn f)) coin high low (λ h. refused-coin f coin p h .1) (coin-passes f coin p)
 
   -- the checks of the file leave 8 alone of the checks on symbols, and the verdict is the same
-  pub file-answers : (v : Verdict) → AnsweredFile f coin v ↔ Told (modulusIn f) (basisIn f) 0 (wordIn f) (proofIn f) coin v
+  pub file-answers : (v : Verdict) → AnsweredFile f coin v ↔ Told (modulusIn f) (basisIn f) (shiftIn f) (wordIn f) (proofIn f) coin v
   file-answers v = (
     (λ a. subst (λ (k : ℕ). Answered onSymbols (symbols (modulusIn f)) k (basisIn f) (wordIn f) (proofIn f) coin v) (sym (length-basis f))
         (answered-alike onBytes onSymbols to-symbols (symbols (modulusIn f)) (dimIn f) (basisIn f) (wordIn f) (proofIn f) coin v a)),

@@ -1,16 +1,24 @@
--- The dimensions whose file is within the limit. Assumes nothing.
-use mathlib.Core.Path.{_≡_, sym, subst, ap, _∙_}
+-- The dimensions whose files are within the limit. Assumes nothing.
+use mathlib.Core.Path.{_≡_, refl, sym, subst, ap, _∙_}
+use mathlib.Core.Bool.{Bool}
 use mathlib.Core.List.{List}
-use Prim.Native.Nat.{ℕ, _+_, _*_, _-_, _≤_, _<_}
+use Prim.Native.Nat.{ℕ, _+_, _*_, _-_, _^_, _≤_, _<_}
 use native.Mathlib.Decide.{decLe}
 use native.Mathlib.Omega.{arith}
+use borrow.Author.Tests.{le-ltb}
 use lib.ListN.{take, drop, getD}
+use lib.Pow.{pow-mono}
 use Rattle.lists.specs.All.{All-at, All-inside}
 use Rattle.lists.specs.Tables.{table-at}
+use Rattle.space.specs.Sizes.{maxDim}
 use Rattle.proximity.specs.Dim.{S}
 use Rattle.proximity.specs.Tree.{lengths, tables-right}
-use Rattle.stored.specs.File.{fileEnd, fileLimit, smallDim, smallProof}
-use Rattle.space.specs.Sizes.{maxDim}
+use Rattle.stored.specs.Bytes.{packedSize}
+use Rattle.stored.specs.File.{narrowOf, fileEnd, fileLimit, smallDim, smallProof}
+use Rattle.stored.specs.Packed.{size-double}
+use Rattle.stored.specs.Passed.{record-size}
+use Rattle.stored.specs.declared.Form.{Form}
+use Rattle.stored.specs.declared.Form.the-variants.{One, Two}
 
 -- the lengths of their proofs
 abbrev shorts : List ℕ
@@ -34,13 +42,28 @@ long-proof k l h =
     (table-at (λ i. S (smallDim + 1 + i)) (drop (smallDim + 1) lengths) 6 (ap (drop (smallDim + 1)) (tables-right .0)) (k - (smallDim + 1)) (omega arith) ∙ ap S {x = smallDim + 1 + (k - (smallDim + 1))} {y = k} (omega arith))
     (All-inside (λ (x : ℕ). fileLimit < 2 * x) (drop (smallDim + 1) lengths) 0 (omega arith) (k - (smallDim + 1)) (omega arith))
 
--- the file of dimension smallDim is within the limit, and none of a larger dimension
-pub small-file : fileEnd smallDim ≤ fileLimit
-small-file = omega (arith, small-proof)
+-- ---- the files of these dimensions are within the limit in either form, and none of a larger dimension
 
-pub short-file : (k : ℕ) → k ≤ maxDim → fileEnd k ≤ fileLimit → k ≤ smallDim
-short-file k h l = by (decLe k smallDim)
+pub small-file : (form : Form) (l k : ℕ) → k ≤ smallDim → fileEnd form l k ≤ fileLimit
+small-file form l k h =
+    omega (
+      arith,
+      short-proof k h,
+      small-proof,
+      record-size form k,
+      size-double (narrowOf form l) (2 ^ k),
+      size-double (narrowOf form l) (S k),
+      pow-mono {i = k} {j = smallDim} h,
+    )
+
+-- symbols of one byte have l ≤ 8, and k ≤ l; symbols of two make a long file
+wide-proof : (form : Form) (l : ℕ) → smallDim < l → (n : ℕ) → packedSize (narrowOf form l) n ≡ 2 * n
+wide-proof One l h n = refl
+wide-proof Two l h n = ap (λ (t : Bool). packedSize t n) (le-ltb l 9 (omega arith))
+
+pub short-file : (form : Form) (l k : ℕ) → k ≤ l → k ≤ maxDim → fileEnd form l k ≤ fileLimit → k ≤ smallDim
+short-file form l k f h e = by (decLe k smallDim)
   where
     by : Dec (k ≤ smallDim) → k ≤ smallDim
     by (yes g) = g
-    by (no g) = absurd (omega (arith, long-proof k (omega arith) h))
+    by (no g) = absurd (omega (arith, long-proof k (omega arith) h, wide-proof form l (omega arith) (S k)))

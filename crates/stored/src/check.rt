@@ -55,25 +55,41 @@ fn no_symbols() -> [u16; 64]
 }
 
 // The symbol of number i that a coin reads.
-fn symbol(file: &[u8], word: usize, proof: usize, k: usize, coin: u64, i: usize) -> u16
-    requires { ⌜ Laid (now file) k word proof × (i < readsOf k coin) ⌝ }
-    ensures { λ r. ⌜ r ≡ readAt (numbersAt (now (file .entry)) word (2 ^ k)) (numbersAt (now (file .entry)) proof (S k)) (placeAt k coin i) ⌝ }
+fn symbol(
+    file: &[u8],
+    narrow: bool,
+    word: usize,
+    proof: usize,
+    k: usize,
+    coin: u64,
+    i: usize,
+) -> u16
+    requires { ⌜ Laid narrow (now file) k word proof × (i < readsOf k coin) ⌝ }
+    ensures { λ r. ⌜ r ≡ readAt (numbersAt narrow (now (file .entry)) word (2 ^ k)) (numbersAt narrow (now (file .entry)) proof (S k)) (placeAt k coin i) ⌝ }
 {
     match places::place(k, coin, i) {
-        Place::InWord(p) => bytes::two_at(file, word + 2 * p),
-        Place::InProof(p) => bytes::two_at(file, proof + 2 * p),
+        Place::InWord(p) => bytes::number_at(file, word, narrow, p),
+        Place::InProof(p) => bytes::number_at(file, proof, narrow, p),
     }
 }
 
 // The n symbols that a coin reads.
-fn symbols(file: &[u8], word: usize, proof: usize, k: usize, coin: u64, n: usize) -> [u16; 64]
-    requires { ⌜ Laid (now file) k word proof × (n ≡ readsOf k coin) ⌝ }
-    ensures { λ r. ⌜ (length r ≡ 64) × (take n r ≡ symbolsAt k (numbersAt (now (file .entry)) word (2 ^ k)) (numbersAt (now (file .entry)) proof (S k)) coin) ⌝ }
+fn symbols(
+    file: &[u8],
+    narrow: bool,
+    word: usize,
+    proof: usize,
+    k: usize,
+    coin: u64,
+    n: usize,
+) -> [u16; 64]
+    requires { ⌜ Laid narrow (now file) k word proof × (n ≡ readsOf k coin) ⌝ }
+    ensures { λ r. ⌜ (length r ≡ 64) × (take n r ≡ symbolsAt k (numbersAt narrow (now (file .entry)) word (2 ^ k)) (numbersAt narrow (now (file .entry)) proof (S k)) coin) ⌝ }
 {
     let mut out = no_symbols();
     let mut i = 0;
     while i < n {
-        out[i] = symbol(file, word, proof, k, coin, i);
+        out[i] = symbol(file, narrow, word, proof, k, coin, i);
         i += 1;
     }
     out
@@ -90,17 +106,25 @@ fn accepts(f: Field, k: usize, images: &[u16; CELLS], read: [u16; 64]) -> bool
 }
 
 // The verdict on the word and the proof whose symbols begin at the two indices.
-pub fn verdict(f: Field, s: Space, file: &[u8], word: usize, proof: usize, coin: u64) -> Verdict
-    requires { ⌜ InSpace f (s .k) (s .images) × Laid (now file) (s .k) word proof ⌝ }
-    requires { ⌜ Below (2 ^ degree (f .modulus)) (numbersAt (now file) word (2 ^ s .k)) × Below (2 ^ degree (f .modulus)) (numbersAt (now file) proof (S (s .k))) ⌝ }
-    ensures { λ v. ⌜ ((b : List ℕ) → Basis (symbols (f .modulus)) (s .k) b → Images (symbols (f .modulus)) b (s .images) → Judged (symbols (f .modulus)) (s .k) b (numbersAt (now (file .entry)) word (2 ^ s .k)) (numbersAt (now (file .entry)) proof (S (s .k))) coin v) ⌝ }
+pub fn verdict(
+    f: Field,
+    s: Space,
+    file: &[u8],
+    narrow: bool,
+    word: usize,
+    proof: usize,
+    coin: u64,
+) -> Verdict
+    requires { ⌜ InSpace f (s .k) (s .images) × Laid narrow (now file) (s .k) word proof ⌝ }
+    requires { ⌜ Below (2 ^ degree (f .modulus)) (numbersAt narrow (now file) word (2 ^ s .k)) × Below (2 ^ degree (f .modulus)) (numbersAt narrow (now file) proof (S (s .k))) ⌝ }
+    ensures { λ v. ⌜ ((b : List ℕ) → Basis (symbols (f .modulus)) (s .k) b → Images (symbols (f .modulus)) b (s .images) → Judged (symbols (f .modulus)) (s .k) b (numbersAt narrow (now (file .entry)) word (2 ^ s .k)) (numbersAt narrow (now (file .entry)) proof (S (s .k))) coin v) ⌝ }
 {
     let k = s.k;
     let t = leaf_space(s, coin);
     let m = t.k;
     let images = t.images;
     let n = 1usize << m;
-    let read = symbols(file, word, proof, k, coin, n);
+    let read = symbols(file, narrow, word, proof, k, coin, n);
     if accepts(f, m, &images, read) {
         return Verdict::Accept(n);
     }

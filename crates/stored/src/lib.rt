@@ -1,21 +1,18 @@
-// The stored file: three records, numbers lowest byte first.
+// The stored file, in two forms: three records, numbers lowest byte first.
 pub mod bytes;
 mod check;
-mod put;
+pub mod forms;
 pub mod records;
 pub mod small;
-mod writer;
 
 use proximity::tables;
 use space::Setting;
 use verifier::Verdict;
 ghost use mathlib.Core.Path.{_≡_};
-ghost use Prim.Native.Nat.{_*_, _^_, _≤_};
-ghost use Rattle.field.specs.Binary.{degree};
-ghost use Rattle.space.specs.Sizes.{maxDim};
-ghost use Rattle.stored.specs.File.{wordAt, proofAt, fileEnd, modulusIn, dimIn};
+ghost use Prim.Native.Nat.{_^_};
+ghost use Rattle.stored.specs.Bytes.{packedSize};
+ghost use Rattle.stored.specs.File.{wordStart, proofStart, formIn, degreeIn, dimIn, narrowIn};
 ghost use Rattle.stored.specs.Reader.{symbolChecks, prefixChecks, fileChecks, SettingRead, noRead, Told, PartTold};
-ghost use Rattle.stored.specs.Writer.{Wrote};
 ghost use Rattle.stored.specs.Check.{AnsweredFile};
 ghost use Rattle.proximity.specs.Dim.{S};
 
@@ -27,29 +24,32 @@ pub const SMALL: usize = 8;
 
 pub const SMALL_PROOF: usize = 16128;
 
-// How many bytes a stored file of dimension k has.
-pub fn file_end(k: usize) -> usize
-    requires { ⌜ k ≤ maxDim ⌝ }
-    ensures { λ r. ⌜ r ≡ fileEnd k ⌝ }
-{
-    let n = 1usize << k;
-    19 + 2 * k + 2 * n + 2 * tables::proof_length(k)
+// The two forms of a stored file: they differ in their marks, in the shift, which form 2 alone
+// has, and in the bytes of a symbol.
+pub enum Form {
+    One,
+    Two,
 }
 
-// A refusal's number and no setting, or 0, the setting, and where the symbols of the word and of
-// the proof begin and where the last record ends.
-pub struct Reading {
-    pub refusal: u8,
-    pub setting: Setting,
+// Whether symbols take one byte each, where those of the word and of the proof begin, and where the
+// last record ends.
+pub struct Layout {
+    pub narrow: bool,
     pub word: usize,
     pub proof: usize,
     pub end: usize,
 }
 
-// The file is written, or the number of a refusal.
-pub enum Outcome {
-    Written,
-    Refused(u8),
+// A refusal's number and no setting; or 0, the form, the setting, whether symbols take one byte
+// each, where those of the word and of the proof begin, and where the last record ends.
+pub struct Reading {
+    pub refusal: u8,
+    pub form: Form,
+    pub setting: Setting,
+    pub narrow: bool,
+    pub word: usize,
+    pub proof: usize,
+    pub end: usize,
 }
 
 fn refused(number: u8) -> Reading
@@ -57,7 +57,9 @@ fn refused(number: u8) -> Reading
 {
     Reading {
         refusal: number,
+        form: Form::One,
         setting: space::no_setting(),
+        narrow: false,
         word: 0,
         proof: 0,
         end: 0,
@@ -67,23 +69,23 @@ fn refused(number: u8) -> Reading
 // Reads the word's record and the proof's, past the record of a checked setting.
 pub fn read_symbols(file: &[u8], setting: Setting) -> Reading
     requires { ⌜ SettingRead (now file) setting ⌝ }
-    ensures { λ r. ⌜ Told (symbolChecks (now (file .entry)) (dimIn (now (file .entry))) (degree (modulusIn (now (file .entry))))) (now (file .entry)) r ⌝ }
+    ensures { λ r. ⌜ Told (symbolChecks (formIn (now (file .entry))) (now (file .entry)) (dimIn (now (file .entry))) (degreeIn (now (file .entry)))) (now (file .entry)) r ⌝ }
 {
+    let form = forms::form_of(file);
     let k = setting.space.k;
-    let late = records::symbols_refusal(setting.field, file, k);
+    let late = records::symbols_refusal(setting.field, file, form, k);
     if late != 0 {
         return refused(late);
     }
-    let n = 1usize << k;
-    let word = 13 + 2 * k;
-    let proof = word + 2 * n + 6;
-    let end = proof + 2 * tables::proof_length(k);
+    let p = forms::layout(form, setting.field, k);
     Reading {
         refusal: 0,
+        form,
         setting,
-        word,
-        proof,
-        end,
+        narrow: p.narrow,
+        word: p.word,
+        proof: p.proof,
+        end: p.end,
     }
 }
 
@@ -124,10 +126,10 @@ pub fn read(file: &[u8]) -> Reading
 
 // The word's bytes in a stored file, and 0; where the file is refused, nothing and the number.
 //
-// Ruled out: the word's record with its mark and count, since the part has 2 * 2^k bytes; a part
+// Ruled out: the word's record with its mark and count, since the part has the bytes of 2^k symbols; a part
 // of a file whose proof has a symbol out of range, since that gets 9 and nothing.
 pub fn word_part<'a>(file: &'a [u8], number: &mut u8) -> &'a [u8]
-    ensures { λ r. ⌜ PartTold (now (file .entry)) (wordAt (dimIn (now (file .entry)))) (2 * 2 ^ dimIn (now (file .entry))) (now r) (now (number .exit)) ⌝ }
+    ensures { λ r. ⌜ PartTold (now (file .entry)) (wordStart (formIn (now (file .entry))) (dimIn (now (file .entry)))) (packedSize (narrowIn (now (file .entry))) (2 ^ dimIn (now (file .entry)))) (now r) (now (number .exit)) ⌝ }
 {
     let r = read(file);
     let early = r.refusal;
@@ -146,7 +148,7 @@ pub fn word_part<'a>(file: &'a [u8], number: &mut u8) -> &'a [u8]
 // Ruled out: an empty part for an accepted file of dimension 7, whose proof has 896 symbols; a
 // number that is left as it came, since it is 0 or that of the refusal.
 pub fn proof_part<'a>(file: &'a [u8], number: &mut u8) -> &'a [u8]
-    ensures { λ r. ⌜ PartTold (now (file .entry)) (proofAt (dimIn (now (file .entry)))) (2 * S (dimIn (now (file .entry)))) (now r) (now (number .exit)) ⌝ }
+    ensures { λ r. ⌜ PartTold (now (file .entry)) (proofStart (formIn (now (file .entry))) (degreeIn (now (file .entry))) (dimIn (now (file .entry)))) (packedSize (narrowIn (now (file .entry))) (S (dimIn (now (file .entry))))) (now r) (now (number .exit)) ⌝ }
 {
     let r = read(file);
     let refusal = r.refusal;
@@ -157,24 +159,6 @@ pub fn proof_part<'a>(file: &'a [u8], number: &mut u8) -> &'a [u8]
         return &file[0..0];
     }
     &file[start..end]
-}
-
-// Writes the stored file of a setting, a word and a proof: checks 1 to 6 and 9, then the bytes.
-//
-// Ruled out: a file of another modulus; a file with another mark, which no reader takes.
-pub fn write(modulus: u32, basis: &[u16], word: &[u16], proof: &[u16], out: &mut [u8]) -> Outcome
-    ensures { λ r. ⌜ Wrote modulus (now (basis .entry)) (now (word .entry)) (now (proof .entry)) (now (out .entry)) (now (out .exit)) r ⌝ }
-{
-    let number = writer::refusal(modulus, basis, word, proof, out.len());
-    if number != 0 {
-        return Outcome::Refused(number);
-    }
-    let second = 7 + 2 * basis.len();
-    let third = second + 6 + 2 * word.len();
-    put::put_setting(modulus, basis, out);
-    put::put_record(0x57, 0x4F, word, second, out);
-    put::put_record(0x50, 0x46, proof, third, out);
-    Outcome::Written
 }
 
 // The checker for one coin over a stored file: the file's checks, then 8; then the verdict, with
@@ -188,6 +172,7 @@ pub fn check_file(file: &[u8], coin: u64) -> Verdict
     let r = read(file);
     let number = r.refusal;
     let setting = r.setting;
+    let narrow = r.narrow;
     let word = r.word;
     let proof = r.proof;
     if number != 0 {
@@ -196,5 +181,13 @@ pub fn check_file(file: &[u8], coin: u64) -> Verdict
     if coin >> tables::coin_bits(setting.space.k) != 0 {
         return Verdict::Refused(8);
     }
-    check::verdict(setting.field, setting.space, file, word, proof, coin)
+    check::verdict(
+        setting.field,
+        setting.space,
+        file,
+        narrow,
+        word,
+        proof,
+        coin,
+    )
 }

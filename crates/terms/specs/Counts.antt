@@ -4,21 +4,20 @@ use mathlib.Core.Logic.{_↔_, inl, inr}
 use mathlib.Core.List.{List}
 use Prim.Native.Nat.{ℕ, _^_}
 use native.Mathlib.Omega.{arith}
-use lib.ListN.{length}
 use Rattle.lists.specs.Answers.{Passes}
 use Rattle.field.specs.Symbols.{symbols}
 use Rattle.proximity.specs.Dim.{dim, R}
-use Rattle.proximity.specs.Proof.{Honest}
 use Rattle.proximity.specs.Verifier.{Accepts}
 use Rattle.verifier.specs.Checker.{readsOf}
 use Rattle.verifier.specs.declared.Verdict.the-variants.{Accept, Reject, Refused}
 use Rattle.stored.specs.CheckLaws.{coin-passes}
-use Rattle.stored.specs.File.{modulusIn, dimIn, basisIn, wordIn, proofIn}
+use Rattle.stored.specs.File.{modulusIn, dimIn, basisIn, shiftIn, wordIn, proofIn}
 use Rattle.stored.specs.Reader.{fileChecks}
 use Rattle.coins.specs.Answer as answer
 use Rattle.coins.specs.Counted.{Counted}
 use Rattle.coins.specs.Totals.{Rejects, Told}
 use Rattle.coins.specs.declared.Counts.{Counts}
+use Rattle.prover.specs.Calls.{ProofAt}
 use Rattle.host.specs.Answer.{HostAnswer}
 use Rattle.terms.specs.Files.{accepted-exactly-from-c}
 
@@ -33,9 +32,9 @@ module _ (f : List ℕ) (p : Passes (fileChecks f)) (r : ℕ) where
   accepts coin reads (Reject n, a, g, h) = absurd (omega arith)
   accepts coin reads (Refused n, (l, a), g, h) = absurd (omega arith)
 
-  -- No coin of an accepted file rejects exactly where its word evaluates a polynomial of degree below an eighth of its length, and its proof
-  -- is the one laid out for it.
-  pub none-exactly : Counted (Rejects f) (2 ^ R (dimIn f)) r → (r ≡ 0) ↔ ((P : List ℕ) × Honest (symbols (modulusIn f)) (dim (length (basisIn f))) (basisIn f) (wordIn f) (proofIn f) P)
+  -- No coin of an accepted file rejects exactly where its word evaluates a polynomial of degree below an eighth of its length at the
+  -- shifted elements, and its proof is the one laid out for it.
+  pub none-exactly : Counted (Rejects f) (2 ^ R (dimIn f)) r → (r ≡ 0) ↔ ProofAt (modulusIn f) (basisIn f) (shiftIn f) (wordIn f) (proofIn f)
   none-exactly t =
       let none = answer.rejects-none f p t in
       let exactly = accepted-exactly-from-c f p in (
@@ -45,6 +44,6 @@ module _ (f : List ℕ) (p : Passes (fileChecks f)) (r : ℕ) where
 
 -- The same of the counter's rejects.
 pub no-rejects-exactly : (f : List ℕ) (c : Counts) → Told f c → c .refusal ≡ 0
-    → (c .rejects ≡ 0) ↔ ((P : List ℕ) × Honest (symbols (modulusIn f)) (dim (length (basisIn f))) (basisIn f) (wordIn f) (proofIn f) P)
+    → (c .rejects ≡ 0) ↔ ProofAt (modulusIn f) (basisIn f) (shiftIn f) (wordIn f) (proofIn f)
 no-rejects-exactly f c (inl (p, y, t)) z = none-exactly f (answer.counted-file f p) (c .rejects) (t .swept .rejecting)
 no-rejects-exactly f c (inr ((l, a), e)) z = absurd (omega arith)

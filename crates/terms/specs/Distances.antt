@@ -8,14 +8,16 @@ use native.Mathlib.Omega.{arith}
 use lib.ListN.{length, set, getD-replicate}
 use Rattle.lists.specs.All.{Below}
 use Rattle.lists.specs.Answers.{Passes}
+use Rattle.lists.specs.Tables.{length-tab}
 use Rattle.field.specs.Binary.{_⊕_, product, degree}
 use Rattle.field.specs.Checks.{not-less}
 use Rattle.field.specs.Symbols.{symbols}
 use Rattle.poly.specs.Codeword.{Codeword}
-use Rattle.poly.specs.Shift.{word-at-zero}
+use Rattle.poly.specs.Poly.{eval}
+use Rattle.poly.specs.Shift.{codeword-shift}
+use Rattle.poly.specs.Span.{elem}
 use Rattle.space.specs.Sound.{Sound, sound-field}
 use Rattle.proximity.specs.Cases.{basis-8, fives}
-use Rattle.codec.specs.RoundTrip.{length-word}
 use Rattle.correction.specs.Calls.{CorrectedWord}
 use Rattle.correction.specs.Differences.{differences, differences-self, differences-set, differences-none}
 use Rattle.correction.specs.Near as correction
@@ -24,7 +26,7 @@ use Rattle.correction.specs.Scratch.{correctionScratch}
 use Rattle.correction.specs.declared.Correction.{Correction}
 use Rattle.correction.specs.declared.Correction.the-variants.{Corrected, Refused}
 use Rattle.stored.specs.Accepted.{accepted}
-use Rattle.stored.specs.File.{modulusIn, basisIn, wordIn}
+use Rattle.stored.specs.File.{modulusIn, basisIn, shiftIn, wordIn}
 use Rattle.coins.specs.Answer.{counted-file, word-length}
 use Rattle.coins.specs.OffLaws.{off-one}
 use Rattle.coins.specs.Totals.{countChecks, Off, Totals, Told}
@@ -40,22 +42,22 @@ correctionAt (Near n) = Corrected n
 correctionAt Far = Refused 13
 
 -- a word in a sound setting
-module _ (m : ℕ) (bs : List ℕ) (s : Sound m bs 0) (w : List ℕ) (lw : length w ≡ 2 ^ length bs) where
+module _ (m : ℕ) (bs : List ℕ) (σ : ℕ) (s : Sound m bs σ) (w : List ℕ) (lw : length w ≡ 2 ^ length bs) where
   abbrev IsCodeword : List ℕ → Type 0
   IsCodeword c = Codeword (symbols m) (length bs) bs c
 
   abbrev bound : ℕ
   bound = radius (2 ^ length bs)
 
-  -- near at the shift 0, which files have
-  at-zero : (c : List ℕ) → correction.NearAt (symbols m) 0 (length bs) bs w c ↔ correction.Near (symbols m) (length bs) bs w c
-  at-zero = near-shift (sound-field s) 0 (s .shift) (length bs) bs w
+  -- near at the shift
+  at-shift : (c : List ℕ) → correction.NearAt (symbols m) σ (length bs) bs w c ↔ correction.Near (symbols m) (length bs) bs w c
+  at-shift = near-shift (sound-field s) σ (s .shift) (length bs) bs w
 
   as-corrected : Below (2 ^ degree m) w → (d : Distance) → Off m bs w d → (old new scratch left : List ℕ) (u : Correction) → length old ≡ 2 ^ length bs
-      → correctionScratch (length bs) ≤ length scratch → CorrectedWord m bs 0 w old new scratch left u → u ≡ correctionAt d
+      → correctionScratch (length bs) ≤ length scratch → CorrectedWord m bs σ w old new scratch left u → u ≡ correctionAt d
   as-corrected h (Near n) (c, x) old new scratch left u lo ls t =
-      near-found m bs 0 w old new scratch left (early-right m bs 0 s w old scratch lw lo ls) h c (at-zero c .1 (x .near)) u t .0 ∙ ap Corrected (sym (x .count))
-  as-corrected h Far none old new scratch left u lo ls t = thirteen-exactly m bs 0 w old new scratch left (early-right m bs 0 s w old scratch lw lo ls) h u t .1 (λ c x. none c (at-zero c .0 x))
+      near-found m bs σ w old new scratch left (early-right m bs σ s w old scratch lw lo ls) h c (at-shift c .1 (x .near)) u t .0 ∙ ap Corrected (sym (x .count))
+  as-corrected h Far none old new scratch left u lo ls t = thirteen-exactly m bs σ w old new scratch left (early-right m bs σ s w old scratch lw lo ls) h u t .1 (λ c x. none c (at-shift c .0 x))
 
   near-off : (d : Distance) → Off m bs w d → (c : List ℕ) → IsCodeword c → differences w c ≤ bound → d ≡ Near (differences w c)
   near-off d o c g h = off-one m bs s w lw d (Near (differences w c)) o (c, record { near = record { codeword = g; close = h }; count = refl })
@@ -75,7 +77,7 @@ module _ (m : ℕ) (bs : List ℕ) (s : Sound m bs 0) (w : List ℕ) (lw : lengt
       by : Off m bs w (Near 0) → IsCodeword w
       by (c, x) =
           let (p, lp, sp, e) = x .near .codeword in
-          subst (Codeword (symbols m) (length bs) bs) (sym (differences-none w c (lw ∙ sym (length-word m bs 0 s p c (e ∙ sym (word-at-zero (sound-field s) (length bs) bs p)))) (sym (x .count)))) (x .near .codeword)
+          subst (Codeword (symbols m) (length bs) bs) (sym (differences-none w c (lw ∙ sym (ap length e ∙ length-tab (2 ^ length bs) (λ i. eval (symbols m) p (elem (symbols m) bs i)))) (sym (x .count)))) (x .near .codeword)
 
   few-off : (n : ℕ) → Off m bs w (Near n) → n ≤ bound
   few-off n (c, x) = omega (arith, x .count, x .near .close)
@@ -89,7 +91,7 @@ module _ (f : List ℕ) (c : Counts) (t : Told f c) (z : c .refusal ≡ 0) where
       by (inl (p, y, u)) = (p, u)
       by (inr ((l, a), e)) = absurd (omega arith)
 
-  setting : Sound (modulusIn f) (basisIn f) 0
+  setting : Sound (modulusIn f) (basisIn f) (shiftIn f)
   setting = accepted f (counted-file f (counted .0)) .records .setting
 
   in-range : Below (2 ^ degree (modulusIn f)) (wordIn f)
@@ -101,31 +103,33 @@ module _ (f : List ℕ) (c : Counts) (t : Told f c) (z : c .refusal ≡ 0) where
 
   -- It is what correction answers for the word of the file, by a call with room enough: the number of differences, or far for 13.
   pub off-as-corrected : (old new scratch left : List ℕ) (u : Correction) → length old ≡ length (wordIn f) → correctionScratch (length (basisIn f)) ≤ length scratch
-      → CorrectedWord (modulusIn f) (basisIn f) 0 (wordIn f) old new scratch left u → u ≡ correctionAt (c .off)
+      → CorrectedWord (modulusIn f) (basisIn f) (shiftIn f) (wordIn f) old new scratch left u → u ≡ correctionAt (c .off)
   off-as-corrected old new scratch left u lo =
-      as-corrected (modulusIn f) (basisIn f) setting (wordIn f) (word-length f) in-range (c .off) off old new scratch left u (lo ∙ word-length f)
+      as-corrected (modulusIn f) (basisIn f) (shiftIn f) setting (wordIn f) (word-length f) in-range (c .off) off old new scratch left u (lo ∙ word-length f)
 
   -- A word that differs from a codeword at no more positions than the radius is off by their number, wherever they are;
   pub damage-told : (v : List ℕ) → Codeword (symbols (modulusIn f)) (length (basisIn f)) (basisIn f) v → differences (wordIn f) v ≤ radius (2 ^ length (basisIn f))
       → c .off ≡ Near (differences (wordIn f) v)
-  damage-told = near-off (modulusIn f) (basisIn f) setting (wordIn f) (word-length f) (c .off) off
+  damage-told = near-off (modulusIn f) (basisIn f) (shiftIn f) setting (wordIn f) (word-length f) (c .off) off
 
   -- it is far off exactly where it differs from each at more.
   pub far-exactly : (c .off ≡ Far)
       ↔ ((v : List ℕ) → Codeword (symbols (modulusIn f)) (length (basisIn f)) (basisIn f) v → radius (2 ^ length (basisIn f)) < differences (wordIn f) v)
-  far-exactly = far-off (modulusIn f) (basisIn f) setting (wordIn f) (word-length f) (c .off) off
+  far-exactly = far-off (modulusIn f) (basisIn f) (shiftIn f) setting (wordIn f) (word-length f) (c .off) off
 
   -- A number is within the radius;
   pub off-within : (n : ℕ) → c .off ≡ Near n → n ≤ radius (2 ^ length (basisIn f))
-  off-within n e = few-off (modulusIn f) (basisIn f) setting (wordIn f) (word-length f) n (subst (Off (modulusIn f) (basisIn f) (wordIn f)) e off)
+  off-within n e = few-off (modulusIn f) (basisIn f) (shiftIn f) setting (wordIn f) (word-length f) n (subst (Off (modulusIn f) (basisIn f) (wordIn f)) e off)
 
   -- it is 0 exactly for a codeword,
   pub zero-off-exactly : (c .off ≡ Near 0) ↔ Codeword (symbols (modulusIn f)) (length (basisIn f)) (basisIn f) (wordIn f)
-  zero-off-exactly = none-off (modulusIn f) (basisIn f) setting (wordIn f) (word-length f) (c .off) off
+  zero-off-exactly = none-off (modulusIn f) (basisIn f) (shiftIn f) setting (wordIn f) (word-length f) (c .off) off
 
   -- so where no coin rejects.
   pub no-rejects-off : c .rejects ≡ 0 → c .off ≡ Near 0
-  no-rejects-off e = let (P, h) = no-rejects-exactly f c t z .0 e in zero-off-exactly .1 (P, h .count, h .elements, h .word)
+  no-rejects-off e =
+      let (P, h) = no-rejects-exactly f c t z .0 e in
+      zero-off-exactly .1 (codeword-shift (sound-field setting) (shiftIn f) (setting .shift) (length (basisIn f)) (basisIn f) (wordIn f) .0 (P, h .count, h .elements, h .word))
 
 -- The word alone decides, with its setting: two counted files that have them in common are equally far off, whatever their proofs hold.
 pub off-by-word : (f g : List ℕ) (c d : Counts) → Told f c → c .refusal ≡ 0 → Told g d → d .refusal ≡ 0

@@ -15,6 +15,7 @@ pub mod Settings
 pub mod CaseVerdicts
 pub mod Cases
 pub mod Files
+pub mod Forms
 pub mod Parts
 pub mod Counts
 pub mod Distances

@@ -23,6 +23,7 @@ numbers =
     ∷ (11, "a file ends before its last record is whole, or a mark differs")
     ∷ (12, "a count is not the one that the setting fixes, or bytes follow the last record")
     ∷ (13, "no codeword differs from the word in at most 7/16 of its positions")
+    ∷ (14, "a file of form 2 to be moved to form 1 has a shift other than 0")
     ∷ []
 
 -- the rows have a row of number n
@@ -41,7 +42,7 @@ InOrder i ((k, m) ∷ rows) = (k ≡ i) × InOrder (suc i) rows
 
 -- The numbers are 1, 2, 3 and so on.
 pub in-order : InOrder 1 numbers
-in-order = (refl, (refl, (refl, (refl, (refl, (refl, (refl, (refl, (refl, (refl, (refl, (refl, (refl, tt)))))))))))))
+in-order = (refl, (refl, (refl, (refl, (refl, (refl, (refl, (refl, (refl, (refl, (refl, (refl, (refl, (refl, tt))))))))))))))
 
 among : (rows : List (ℕ × String)) (i n : ℕ) → InOrder i rows → i ≤ n → n < i + length rows → Among n rows
 among [] i n o l h = absurd (omega arith)

@@ -21,9 +21,12 @@ use Rattle.verifier.specs.declared.Verdict.the-variants as verdict
 use Rattle.stored.specs.Check.{coinChecks, AnsweredFile}
 use Rattle.stored.specs.Reader as reader
 use Rattle.stored.specs.Reader.{prefixChecks, fileChecks, readOf, noRead}
+use Rattle.stored.specs.declared.Form.{Form}
 use Rattle.stored.specs.declared.Reading.{Reading}
-use Rattle.stored.specs.Writer.{writerChecks, Wrote}
-use Rattle.stored.specs.declared.Outcome.the-variants as written
+use Rattle.filing.specs.Convert.{shiftChecks, convertChecks, Converted, noLength, lengthOf, LengthTold}
+use Rattle.filing.specs.Writer.{writerChecks, Wrote}
+use Rattle.filing.specs.declared.ConvertedLength.{ConvertedLength}
+use Rattle.filing.specs.declared.Outcome.the-variants as written
 use Rattle.coins.specs.Totals as counter
 use Rattle.coins.specs.Totals.{countChecks, noCounts}
 use Rattle.coins.specs.declared.Counts.{Counts}
@@ -139,9 +142,18 @@ refused-file-check f coin n = one-of 12 (coinChecks f coin) (omega arith) (searc
 pub file-number : (f : List ℕ) (r : ℕ) → Refuses (fileChecks f) r → OneOf 12 r
 file-number f r = one-of 12 (fileChecks f) (omega arith) (search (arith) depth 40)
 
--- the writer of stored files
-pub refused-writing : (m : ℕ) (bs w π old new : List ℕ) (n : ℕ) → Wrote m bs w π old new (written.Refused n) → OneOf 9 n × (new ≡ old)
-refused-writing m bs w π old new n (a, e) = (one-of 9 (writerChecks m bs w π (length old)) (omega arith) (search (arith) depth 30) a, e)
+-- the writers of stored files
+pub refused-writing : (form : Form) (m : ℕ) (bs : List ℕ) (σ : ℕ) (w π old new : List ℕ) (n : ℕ) → Wrote form m bs σ w π old new (written.Refused n) → OneOf 9 n × (new ≡ old)
+refused-writing form m bs σ w π old new n (a, e) = (one-of 9 (writerChecks form m bs σ w π (length old)) (omega arith) (search (arith) depth 30) a, e)
+
+-- the converter of stored files, and the length of the converted file
+pub refused-converting : (f old new : List ℕ) (n : ℕ) → Converted f old new (written.Refused n) → OneOf 14 n × (new ≡ old)
+refused-converting f old new n (a, e) = (one-of 14 (convertChecks f (length old)) (omega arith) (search (arith) depth 40) a, e)
+
+pub refused-length : (f : List ℕ) (r : ConvertedLength) → LengthTold f r → 0 < r .refusal → OneOf 14 (r .refusal) × (r ≡ noLength (r .refusal))
+unfolding lengthOf
+refused-length f r (inl (p, e)) h = let z : r .refusal ≡ 0 = ap (λ (x : ConvertedLength). x .refusal) e in absurd (omega arith)
+refused-length f r (inr (a, e)) h = (one-of 14 (shiftChecks f) (omega arith) (search (arith) depth 40) a, e)
 
 -- the maker of deliveries
 pub refused-making : (t old new : List ℕ) (n : ℕ) → making.Told t old new (made.Refused n) → OneOf 12 n × (new ≡ old)

@@ -9,10 +9,7 @@ use native.Mathlib.Omega.{arith}
 use lib.ListN.{length, take, drop}
 use Rattle.lists.specs.Answers.{Passes, not-refused}
 use Rattle.lists.specs.Decides.{Decides}
-use Rattle.field.specs.Symbols.{symbols}
-use Rattle.proximity.specs.Dim.{dim}
-use Rattle.proximity.specs.Proof.{Honest}
-use Rattle.stored.specs.File.{fileLimit, modulusIn, basisIn, wordIn, proofIn}
+use Rattle.stored.specs.File.{fileLimit, modulusIn, basisIn, shiftIn, wordIn, proofIn}
 use Rattle.coins.specs.Answer.{swept-one}
 use Rattle.coins.specs.Totals as counter
 use Rattle.coins.specs.Totals.{countChecks}
@@ -30,6 +27,7 @@ use Rattle.report.specs.Window.{windowOn, Slid}
 use Rattle.report.specs.declared.Entry.{Entry}
 use Rattle.report.specs.declared.Report.{Report}
 use Rattle.report.specs.declared.Total.{Total}
+use Rattle.prover.specs.Calls.{ProofAt}
 use Rattle.terms.specs.Counts.{none-exactly}
 
 -- ---- one answer
@@ -98,10 +96,9 @@ entry-as-counted s e c (inl (p, z, t, g)) h (inl (q, y, u)) = let (k, coins, rej
 entry-as-counted s e c (inl (p, z, t, g)) h (inr (r, u)) = absurd (not-refused (countChecks (fileIn s)) (laws.entry-counted s p) r)
 entry-as-counted s e c (inr ((l, a), g)) h u = absurd (omega arith)
 
--- No coin of its file rejects exactly where the file's word evaluates a polynomial of degree below an eighth of its length, and its proof is
--- the one laid out for it.
+-- No coin of its file rejects exactly where the file's word evaluates a polynomial of degree below an eighth of its length at the shifted
+-- elements, and its proof is the one laid out for it.
 pub no-rejects-reported : (s : List ℕ) (e : Entry) → Told s e → e .refusal ≡ 0
-    → (e .rejects ≡ 0)
-    ↔ ((P : List ℕ) × Honest (symbols (modulusIn (fileIn s))) (dim (length (basisIn (fileIn s)))) (basisIn (fileIn s)) (wordIn (fileIn s)) (proofIn (fileIn s)) P)
+    → (e .rejects ≡ 0) ↔ ProofAt (modulusIn (fileIn s)) (basisIn (fileIn s)) (shiftIn (fileIn s)) (wordIn (fileIn s)) (proofIn (fileIn s))
 no-rejects-reported s e (inl (p, z, t, g)) h = none-exactly (fileIn s) (laws.entry-file s p) (e .rejects) (t .rejecting)
 no-rejects-reported s e (inr ((l, a), g)) h = absurd (omega arith)

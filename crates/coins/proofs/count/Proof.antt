@@ -63,7 +63,7 @@ module _ (c : tie.After-word-of) where
   long : length word ≡ symbolCount (found .setting .space .k)
   long = length-take-le _ _ (omega (arith, few, c .word-of .ensures .0))
 
-  word-is : word ≡ numbersAt bytes (found .word) (2 ^ found .setting .space .k)
+  word-is : word ≡ numbersAt (found .narrow) bytes (found .word) (2 ^ found .setting .space .k)
   word-is = word-front bytes found read short (c .word-of .result) (c .word-of .ensures .1)
 
 shl-places : tie.Need-shl-places

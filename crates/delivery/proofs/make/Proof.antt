@@ -1,29 +1,39 @@
 -- `delivery::make` meets its contract. Assumes nothing.
-use mathlib.Core.Path.{_≡_, refl, sym, ap, _∙_, subst}
+use mathlib.Core.Path.{_≡_, refl, sym, ap, _∙_}
 use mathlib.Core.List.{List, _++_}
 use Prim.Native.Nat.{ℕ, _≤_}
 use native.Mathlib.Omega.{arith}
 use lib.ListN.{length, take, drop}
 use lib.Seq.{length-take-le}
-use Rattle.lists.specs.Answers.{Answers, Passes}
-use Rattle.stored.specs.File.{fileOf, fileEnd, modulusIn, dimIn, basisIn}
+use Rattle.lists.specs.Answers.{Passes}
+use Rattle.space.specs.Ready.{Ready}
+use Rattle.space.specs.declared.Setting.{Setting}
+use Rattle.stored.specs.Accepted.{setting-ready}
+use Rattle.stored.specs.File.{fileOf, formIn, modulusIn, basisIn, shiftIn, endIn}
+use Rattle.stored.specs.Reader.{SettingRead}
 use Rattle.delivery.specs.Parts.{Passed}
 use Rattle.delivery.specs.Message.{wordFrom, messageChecks}
-use Rattle.delivery.specs.MessageLaws.{message-passed}
+use Rattle.delivery.specs.MessageLaws.{message-passed, message-refuses, message-read, layout-end}
 use borrow.Author.Needs.{needs}
 use Rattle.delivery.proofs.make.Statement.{statement}
 use Rattle.delivery.proofs.make.Tie as tie
 
-refusal-requires : tie.Need-refusal-requires
-refusal-requires c κs = search needs
+check-requires : tie.Need-check-requires
+check-requires c κs = search needs
 
 returns : tie.Need-returns
-returns c = search needs
+returns c =
+    let r = c .before .before in
+    let a = r .before .before .before .args in
+    (message-refuses (a .message .now) (length (a .out .now)) (r .check .result) (r .check .ensures) (c .if1 .taken), refl)
 
 -- the checks pass
 module _ (c : tie.Else1) where
+  abbrev checked : tie.After-check
+  checked = c .before .before
+
   abbrev start : tie.Start
-  start = c .before .before .before .before
+  start = checked .before .before .before
 
   abbrev t : List ℕ
   t = start .args .message .now
@@ -31,34 +41,43 @@ module _ (c : tie.Else1) where
   abbrev old : List ℕ
   old = start .args .out .now
 
+  abbrev found : Setting
+  found = checked .check .result .setting
+
   passes : Passes (messageChecks t (length old))
-  passes = subst (Answers (messageChecks t (length old))) (c .if1 .left) (c .before .refusal .ensures)
+  passes = message-read t (length old) (checked .check .result) (checked .check .ensures) (c .if1 .left) .0
+
+  given : SettingRead t found
+  given = message-read t (length old) (checked .check .result) (checked .check .ensures) (c .if1 .left) .1
+
+  fit : Ready (modulusIn t) (basisIn t) found
+  fit = setting-ready t found given
 
   held : Passed t
   held = message-passed t (length old) passes .0
 
-  room : fileEnd (dimIn t) ≤ length old
+  room : endIn t ≤ length old
   room = message-passed t (length old) passes .1
 
-shared-slice-read-k : tie.Need-shared-slice-read-k
-shared-slice-read-k c = omega (arith, held (c .before) .head .opened .present)
+form-of-requires : tie.Need-form-of-requires
+form-of-requires c κs = search needs
 
-cast-k : tie.Need-cast-k
-cast-k c = omega (arith, held (c .before) .head .high)
-
-file-end-requires : tie.Need-file-end-requires
-file-end-requires c κs = held (c .before) .head .high
+layout-requires : tie.Need-layout-requires
+layout-requires c κs = let r = fit (c .before) in (r .sized, omega (arith, r .dimension, r .sound .high))
 
 -- the part that is lent
-module _ (c : tie.After-file-end) where
+module _ (c : tie.After-layout) where
   abbrev here : tie.Else1
   here = c .before .before
 
   abbrev end : ℕ
-  end = c .file-end .result
+  end = c .layout .result .end
+
+  right : end ≡ endIn (t here)
+  right = layout-end (t here) (found here) (c .before .form-of .result) (c .layout .result) (given here) (c .before .form-of .ensures) (c .layout .ensures)
 
   fits : end ≤ length (old here)
-  fits = omega (arith, c .file-end .ensures, room here)
+  fits = omega (arith, right, room here)
 
   part : length (take end (old here)) ≡ end
   part = length-take-le end (old here) fits
@@ -70,7 +89,7 @@ slice-aggregate-write-file : tie.Need-slice-aggregate-write-file
 slice-aggregate-write-file c = sym (part (c .before))
 
 write-file-requires : tie.Need-write-file-requires
-write-file-requires c κs = let h = c .before in (held (here h), refl, part h ∙ h .file-end .ensures)
+write-file-requires c κs = let h = c .before in (held (here h), given (here h), part h ∙ right h)
 
 same-length : tie.Need-same-length
 same-length c = search needs
@@ -81,19 +100,18 @@ returns-2 c =
     let w = c .before .before .write-file .ensures in
     let bytes = t (here h) in (
       passes (here h),
-      h .file-end .ensures,
-      (w .0, w .1, ap (λ (file : List ℕ). file ++ drop (end h) (old (here h))) {y = fileOf (modulusIn bytes) (basisIn bytes) (wordFrom bytes) (w .0)} (w .2)),
+      right h,
+      (w .0, w .1, ap (λ (file : List ℕ). file ++ drop (end h) (old (here h))) {y = fileOf (formIn bytes) (modulusIn bytes) (basisIn bytes) (shiftIn bytes) (wordFrom bytes) (w .0)} (w .2)),
     )
 
 pub make-spec : {M : Type 1} → statement M
 make-spec =
     tie.close
     (tie.spec
-    refusal-requires
+    check-requires
     returns
-    shared-slice-read-k
-    cast-k
-    file-end-requires
+    form-of-requires
+    layout-requires
     slice-relend-prefix-write-file
     slice-aggregate-write-file
     write-file-requires

@@ -6,13 +6,15 @@ use Prim.Native.Nat.{ℕ, _≤_}
 use native.Mathlib.Omega.{arith}
 use lib.ListN.{length, take}
 use lib.Seq.{length-take-le}
-use Rattle.lists.specs.Answers.{Answers, Passes}
+use Rattle.lists.specs.Answers.{Checks, Answers, Passes}
 use Rattle.field.specs.Binary.{degree}
+use Rattle.space.specs.Ready.{Ready}
 use Rattle.space.specs.declared.Setting.{Setting}
-use Rattle.stored.specs.Accepted.{setting-passed, setting-refuses, setting-dimension, read-setting, told-accepted, told-refuses}
-use Rattle.stored.specs.File.{fileEnd, fileLimit, modulusIn, dimIn}
+use Rattle.stored.specs.Accepted.{setting-passed, setting-refuses, setting-ready, setting-dimension, read-setting, told-accepted, told-refuses}
+use Rattle.stored.specs.File.{layoutOf, fileLimit, formIn, modulusIn, degreeIn, dimIn, basisIn, endIn}
 use Rattle.stored.specs.Passed.{Head}
 use Rattle.stored.specs.Reader.{symbolChecks, SettingRead, readOf}
+use Rattle.stored.specs.declared.Layout.{Layout}
 use Rattle.stored.specs.declared.Reading.{Reading}
 use Rattle.coins.specs.Totals.{Swept}
 use Rattle.report.specs.Entry.{entryChecks, fileIn}
@@ -48,39 +50,51 @@ module _ (c : tie.Else1) where
   head : Head bytes
   head = setting-passed bytes (given .0) .0
 
+  fit : Ready (modulusIn bytes) (basisIn bytes) found
+  fit = setting-ready bytes found given
+
   dimension : found .space .k ≡ dimIn bytes
   dimension = setting-dimension bytes found given
 
-file-end-requires : tie.Need-file-end-requires
-file-end-requires c κs = omega (arith, dimension c, head c .high)
+  abbrev checks : Checks
+  checks = symbolChecks (formIn bytes) bytes (dimIn bytes) (degreeIn bytes)
+
+form-of-requires : tie.Need-form-of-requires
+form-of-requires c κs = search needs
+
+layout-requires : tie.Need-layout-requires
+layout-requires c κs = let e = c .before in (fit e .sized, omega (arith, dimension e, head e .high))
 
 -- the size of the file
-module _ (c : tie.After-file-end) where
-  size : c .file-end .result ≡ fileEnd (dimIn (bytes (c .before)))
-  size = c .file-end .ensures ∙ ap (λ (k : ℕ). fileEnd k) (dimension (c .before))
+module _ (c : tie.After-layout) where
+  abbrev passed : tie.Else1
+  passed = c .before .before
+
+  size : c .layout .result .end ≡ endIn (bytes passed)
+  size = ap (λ (p : Layout). p .end) (c .layout .ensures ∙ λ i. layoutOf (c .before .form-of .ensures i) (degree (fit passed .modulus i)) (dimension passed i))
 
 refused-requires-2 : tie.Need-refused-requires-2
 refused-requires-2 c κs = search needs
 
 returns-2 : tie.Need-returns-2
 returns-2 c =
-    let z = c .before .before in
-    let s = bytes (z .before) in
-    told-number s (c .refused2 .result) 6 (λ e. omega arith) (size-refused s (given (z .before) .0) (omega (arith, size z, c .before .if2 .taken))) (c .refused2 .ensures)
+    let z = c .before .before .before in
+    let s = bytes (passed z) in
+    told-number s (c .refused2 .result) 6 (λ e. omega arith) (size-refused s (given (passed z) .0) (omega (arith, size z, c .before .if2 .taken))) (c .refused2 .ensures)
 
 read-symbols-requires : tie.Need-read-symbols-requires
-read-symbols-requires c κs = given (c .before .before)
+read-symbols-requires c κs = given (passed (c .before .before))
 
 -- the checks of word and proof
 module _ (c : tie.After-read-symbols) where
   abbrev here : tie.Else1
-  here = c .before .before .before
+  here = passed (c .before .before .before)
 
   abbrev r : Reading
   r = c .read-symbols .result
 
-  answered : (n : ℕ) → Answers (symbolChecks (bytes here) (dimIn (bytes here)) (degree (modulusIn (bytes here)))) n → Answers (entryChecks (bytes here)) n
-  answered n a = records-answer (bytes here) n (given here .0) (omega (arith, size (c .before .before), c .before .if2 .left)) a
+  answered : (n : ℕ) → Answers (checks here) n → Answers (entryChecks (bytes here)) n
+  answered n a = records-answer (bytes here) n (given here .0) (omega (arith, size (c .before .before .before), c .before .if2 .left)) a
 
 refused-requires-3 : tie.Need-refused-requires-3
 refused-requires-3 c κs = search needs
@@ -89,7 +103,7 @@ returns-3 : tie.Need-returns-3
 returns-3 c =
     let t = c .before .before in
     let s = bytes (here t) in
-    let a = told-refuses s (symbolChecks s (dimIn s) (degree (modulusIn s))) (r t) (t .read-symbols .ensures) (c .before .if3 .taken) in
+    let a = told-refuses s (checks (here t)) (r t) (t .read-symbols .ensures) (c .before .if3 .taken) in
     told-number s (c .refused3 .result) (r t .refusal) (c .before .if3 .taken) (answered t (r t .refusal) (a .1)) (c .refused3 .ensures)
 
 -- the file is accepted
@@ -100,13 +114,13 @@ module _ (c : tie.Else3) where
   abbrev s : List ℕ
   s = bytes (here read)
 
-  told : Passes (symbolChecks s (dimIn s) (degree (modulusIn s))) × (r read ≡ readOf s)
-  told = told-accepted s (symbolChecks s (dimIn s) (degree (modulusIn s))) (r read) (read .read-symbols .ensures) (c .if3 .left)
+  told : Passes (checks (here read)) × (r read ≡ readOf s)
+  told = told-accepted s (checks (here read)) (r read) (read .read-symbols .ensures) (c .if3 .left)
 
   passes : Passes (entryChecks s)
   passes = answered read 0 (told .0)
 
-  end : r read .end ≡ fileEnd (dimIn s)
+  end : r read .end ≡ endIn s
   unfolding readOf
   end = ap (λ (x : Reading). x .end) (told .1)
 
@@ -143,7 +157,8 @@ front-spec =
     setting-of-requires
     refused-requires
     returns
-    file-end-requires
+    form-of-requires
+    layout-requires
     refused-requires-2
     returns-2
     read-symbols-requires

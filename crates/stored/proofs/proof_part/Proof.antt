@@ -7,7 +7,8 @@ use native.Mathlib.Omega.{arith}
 use lib.ListN.{take, drop}
 use Rattle.proximity.specs.Dim.{S}
 use Rattle.stored.specs.Accepted.{told-accepted, told-refuses, Places, read-places}
-use Rattle.stored.specs.File.{dimIn}
+use Rattle.stored.specs.Bytes.{packedSize}
+use Rattle.stored.specs.File.{dimIn, narrowIn}
 use Rattle.stored.specs.Reader.{fileChecks}
 use borrow.Author.Needs.{needs}
 use Rattle.stored.proofs.proof_part.Statement.{statement}
@@ -54,7 +55,7 @@ returns-2 c =
     let f = bytes e in
     let r = e .before .read in
     let p = places e in
-    let count : r .result .end - r .result .proof ≡ 2 * S (dimIn f) = omega (arith, p .word, p .proof, p .end) in
+    let count : r .result .end - r .result .proof ≡ packedSize (narrowIn f) (S (dimIn f)) = omega (arith, p .word, p .proof, p .end) in
     inl (
       told-accepted f (fileChecks f) (r .result) (r .ensures) (e .if1 .left) .0,
       ap₂ (λ (n s : ℕ). take n (drop s f)) count (p .proof),

@@ -2,9 +2,8 @@
 use mathlib.Core.List.{List}
 use Prim.Native.Nat.{ℕ}
 use Rattle.lists.specs.Answers.{refused-first}
-use Rattle.field.specs.Binary.{degree}
 use Rattle.stored.specs.Accepted.{setting-numbered, setting-refuses, read-setting, told-number, told-after}
-use Rattle.stored.specs.File.{modulusIn, dimIn}
+use Rattle.stored.specs.File.{formIn, degreeIn, dimIn}
 use Rattle.stored.specs.Reader.{settingChecks, symbolChecks, prefixChecks, SettingRead}
 use borrow.Author.Needs.{needs}
 use Rattle.stored.proofs.read_prefix.Statement.{statement}
@@ -22,7 +21,7 @@ returns c =
     let f = s .before .before .args .file .now in
     let a = setting-refuses f (s .setting-of .result) (s .setting-of .ensures) (c .before .if1 .taken) in
     told-number f (prefixChecks f) (c .refused .result) (s .setting-of .result .refusal) (a .0)
-    (refused-first (settingChecks f) (symbolChecks f (dimIn f) (degree (modulusIn f))) (s .setting-of .result .refusal) (a .0) (a .1)) (c .refused .ensures)
+    (refused-first (settingChecks f) (symbolChecks (formIn f) f (dimIn f) (degreeIn f)) (s .setting-of .result .refusal) (a .0) (a .1)) (c .refused .ensures)
 
 -- the setting passed
 module _ (c : tie.Else1) where
@@ -38,7 +37,7 @@ read-symbols-requires c κs = given c
 returns-2 : tie.Need-returns-2
 returns-2 c =
     let f = bytes (c .before) in
-    told-after f (settingChecks f) (symbolChecks f (dimIn f) (degree (modulusIn f))) (c .read-symbols .result) (setting-numbered f) (given (c .before) .0) (c .read-symbols .ensures)
+    told-after f (settingChecks f) (symbolChecks (formIn f) f (dimIn f) (degreeIn f)) (c .read-symbols .result) (setting-numbered f) (given (c .before) .0) (c .read-symbols .ensures)
 
 pub read-prefix-spec : {M : Type 1} → statement M
 read-prefix-spec = tie.close (tie.spec setting-of-requires refused-requires returns read-symbols-requires returns-2)

@@ -1,20 +1,19 @@
 -- `stored::read_symbols` meets its contract. Assumes nothing.
-use mathlib.Core.Path.{_≡_, subst}
+use mathlib.Core.Path.{_≡_, sym, _∙_, subst, transport}
 use mathlib.Core.Logic.{inl}
 use mathlib.Core.List.{List}
-use Prim.Native.Nat.{ℕ, _*_, _%_, _^_, _≤_, _<_}
+use Prim.Native.Nat.{ℕ, _≤_}
 use native.Mathlib.Omega.{arith}
+use lib.ListN.{length}
 use Rattle.lists.specs.Answers.{Checks, Answers}
 use Rattle.field.specs.Binary.{degree}
 use Rattle.space.specs.Ready.{Ready}
 use Rattle.space.specs.Sizes.{maxDim}
 use Rattle.space.specs.declared.Setting.{Setting}
-use Rattle.proximity.specs.LineLaws.{S-small}
 use Rattle.stored.specs.Accepted.{setting-passed, setting-ready, setting-dimension, told-number, read-made}
-use Rattle.stored.specs.File.{modulusIn, dimIn, basisIn}
+use Rattle.stored.specs.File.{wordRecordAt, layoutOf, formIn, modulusIn, degreeIn, dimIn, basisIn}
 use Rattle.stored.specs.Passed.{Head}
 use Rattle.stored.specs.Reader.{symbolChecks}
-use Rattle.stored.proofs.Laws.{word-count}
 use borrow.Author.Needs.{needs}
 use Rattle.stored.proofs.read_symbols.Statement.{statement}
 use Rattle.stored.proofs.read_symbols.Tie as tie
@@ -39,15 +38,16 @@ module _ (c : tie.Start) where
   few : found .space .k ≤ maxDim
   few = omega (arith, dimension, head .high)
 
-  -- 2^k, as it is computed
-  count : (1 * 2 ^ found .space .k % 18446744073709551616 ≡ 2 ^ found .space .k) × (2 ^ found .space .k ≤ 2 ^ maxDim)
-  count = word-count (found .space .k) few
-
   abbrev checks : Checks
-  checks = symbolChecks bytes (dimIn bytes) (degree (modulusIn bytes))
+  checks = symbolChecks (formIn bytes) bytes (dimIn bytes) (degreeIn bytes)
+
+form-of-requires : tie.Need-form-of-requires
+form-of-requires c κs = search needs
 
 symbols-refusal-requires : tie.Need-symbols-refusal-requires
-symbols-refusal-requires c κs = let s = c .before in (fit s .sized, few s, omega (arith, dimension s, head s .basis))
+symbols-refusal-requires c κs =
+    let s = c .before .before in
+    (fit s .sized, few s, transport (λ i. wordRecordAt (sym (c .form-of .ensures) i) (sym (dimension s) i) ≤ length (bytes s)) (head s .basis))
 
 refused-requires : tie.Need-refused-requires
 refused-requires c κs = search needs
@@ -55,15 +55,14 @@ refused-requires c κs = search needs
 -- the checks of word and proof
 module _ (c : tie.After-symbols-refusal) where
   abbrev start : tie.Start
-  start = c .before .before
+  start = c .before .before .before
 
   abbrev late : ℕ
   late = c .symbols-refusal .result
 
   tested : Answers (checks start) late
   tested =
-      subst (λ (k : ℕ). Answers (symbolChecks (bytes start) k (degree (modulusIn (bytes start)))) late) (dimension start)
-      (subst (λ (m : ℕ). Answers (symbolChecks (bytes start) (found start .space .k) (degree m)) late) (fit start .modulus) (c .symbols-refusal .ensures))
+      transport (λ i. Answers (symbolChecks (c .before .form-of .ensures i) (bytes start) (dimension start i) (degree (fit start .modulus i))) late) (c .symbols-refusal .ensures)
 
 returns : tie.Need-returns
 returns c =
@@ -71,60 +70,27 @@ returns c =
     let s = start t in
     told-number (bytes s) (checks s) (c .refused .result) (late t) (omega (arith, c .before .if1 .taken)) (tested t) (c .refused .ensures)
 
-shl-n : tie.Need-shl-n
-shl-n c = omega (arith, few (start (c .before)))
-
-mul-word : tie.Need-mul-word
-mul-word c = omega (arith, few (start (c .before)))
-
-add-word : tie.Need-add-word
-add-word c = omega (arith, few (start (c .before)))
-
-mul-proof : tie.Need-mul-proof
-mul-proof c = let n = count (start (c .before)) in omega arith
-
-add-proof : tie.Need-add-proof
-add-proof c = let n = count (start (c .before)) in omega (arith, few (start (c .before)))
-
-add-proof-2 : tie.Need-add-proof-2
-add-proof-2 c = let n = count (start (c .before)) in omega (arith, few (start (c .before)))
-
-proof-length-requires : tie.Need-proof-length-requires
-proof-length-requires c κs = few (start (c .before))
-
--- S(k) is small
-short : (c : tie.After-proof-length) → c .proof-length .result < 67551233
-short c = let s = start (c .before .before) in omega (arith, c .proof-length .ensures, S-small (found s .space .k) (omega (arith, few s)))
-
-mul-end : tie.Need-mul-end
-mul-end c = omega (arith, short c)
-
-add-end : tie.Need-add-end
-add-end c = let s = start (c .before .before) in let n = count s in omega (arith, few s, short c)
+layout-requires : tie.Need-layout-requires
+layout-requires c κs = let s = start (c .before) in (fit s .sized, few s)
 
 returns-2 : tie.Need-returns-2
 returns-2 c =
     let t = c .before .before in
     let s = start t in
+    let form = t .before .form-of .ensures in
     inl (
       subst (Answers (checks s)) (c .before .if1 .left) (tested t),
-      read-made (bytes s) (found s) (found s .space .k) (1 * 2 ^ found s .space .k % 18446744073709551616) (c .proof-length .result) (c .before .before .before .before .pre .1) (dimension s) (count s .0) (c .proof-length .ensures),
+      read-made (bytes s) (t .before .form-of .result) (found s) (c .layout .result) form (s .pre .1)
+          (c .layout .ensures ∙ λ i. layoutOf (form i) (degree (fit s .modulus i)) (dimension s i)),
     )
 
 pub read-symbols-spec : {M : Type 1} → statement M
 read-symbols-spec =
     tie.close
     (tie.spec
+    form-of-requires
     symbols-refusal-requires
     refused-requires
     returns
-    shl-n
-    mul-word
-    add-word
-    mul-proof
-    add-proof
-    add-proof-2
-    proof-length-requires
-    mul-end
-    add-end
+    layout-requires
     returns-2)

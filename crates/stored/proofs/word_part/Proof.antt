@@ -2,11 +2,12 @@
 use mathlib.Core.Path.{_≡_, refl, ap₂}
 use mathlib.Core.Logic.{inl, inr}
 use mathlib.Core.List.{List}
-use Prim.Native.Nat.{ℕ, _*_, _-_, _^_}
+use Prim.Native.Nat.{ℕ, _-_, _^_}
 use native.Mathlib.Omega.{arith}
 use lib.ListN.{take, drop}
 use Rattle.stored.specs.Accepted.{told-accepted, told-refuses, Places, read-places}
-use Rattle.stored.specs.File.{dimIn}
+use Rattle.stored.specs.Bytes.{packedSize}
+use Rattle.stored.specs.File.{dimIn, narrowIn}
 use Rattle.stored.specs.Reader.{fileChecks}
 use borrow.Author.Needs.{needs}
 use Rattle.stored.proofs.word_part.Statement.{statement}
@@ -56,7 +57,7 @@ returns-2 c =
     let f = bytes e in
     let r = e .before .read in
     let p = places e in
-    let count : r .result .proof - 6 - r .result .word ≡ 2 * 2 ^ dimIn f = omega (arith, p .word, p .proof, p .end) in
+    let count : r .result .proof - 6 - r .result .word ≡ packedSize (narrowIn f) (2 ^ dimIn f) = omega (arith, p .word, p .proof, p .end) in
     inl (
       told-accepted f (fileChecks f) (r .result) (r .ensures) (e .if1 .left) .0,
       ap₂ (λ (n s : ℕ). take n (drop s f)) count (p .word),

@@ -1,13 +1,15 @@
 -- `coins::symbols::proof_of` meets its contract. Assumes nothing.
-use mathlib.Core.Path.{_≡_, sym, _∙_}
+use mathlib.Core.Path.{_≡_, sym, _∙_, subst}
 use mathlib.Core.List.{List}
-use Prim.Native.Nat.{ℕ, _≤_}
+use Prim.Native.Nat.{ℕ, _+_, _≤_}
 use native.Mathlib.Omega.{arith}
 use lib.ListN.{length, take}
 use lib.Seq.{length-take-le}
+use Rattle.stored.specs.Bytes.{packedSize}
 use Rattle.stored.specs.CheckLaws.{read-laid}
+use Rattle.stored.specs.Packed.{front-length, front-numbers}
 use Rattle.stored.specs.declared.Reading.{Reading}
-use Rattle.coins.proofs.FileSymbols.{short, front-length, front-numbers}
+use Rattle.coins.proofs.FileSymbols.{short}
 use borrow.Author.Needs.{needs}
 use Rattle.coins.proofs.symbols.proof_of.Statement.{statement}
 use Rattle.coins.proofs.symbols.proof_of.Tie as tie
@@ -51,15 +53,16 @@ numbers-at-requires : tie.Need-numbers-at-requires
 numbers-at-requires c κs =
     let t = c .before in
     let s = start t in
-    omega (arith, part t, t .before .proof-length .ensures, read-laid (bytes t) (found t) (s .pre .0 .0) (s .pre .0 .1) .proof-fits)
+    subst (λ (m : ℕ). found t .proof + packedSize (found t .narrow) m ≤ length (bytes t)) (sym (part t ∙ t .before .proof-length .ensures))
+    (read-laid (bytes t) (found t) (s .pre .0 .0) (s .pre .0 .1) .proof-fits)
 
 returns : tie.Need-returns
 returns c =
     let e = c .before in
     let t = e .before .before in
-    let new : List ℕ = e .numbers-at .last .1 .1 .0 in (
-      front-length (bytes t) (found t .proof) (n t) (zeros t) new (fits t) (e .numbers-at .ensures) ∙ t .no-proof .ensures,
-      front-numbers (bytes t) (found t .proof) (n t) (zeros t) new (fits t) (e .numbers-at .ensures) (t .before .proof-length .ensures),
+    let new : List ℕ = e .numbers-at .last .1 .1 .1 .0 in (
+      front-length (found t .narrow) (bytes t) (found t .proof) (n t) (zeros t) new (fits t) (e .numbers-at .ensures) ∙ t .no-proof .ensures,
+      front-numbers (found t .narrow) (bytes t) (found t .proof) (n t) (zeros t) new (fits t) (e .numbers-at .ensures) (t .before .proof-length .ensures),
     )
 
 pub proof-of-spec : {M : Type 1} → statement M

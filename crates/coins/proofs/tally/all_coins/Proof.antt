@@ -7,16 +7,16 @@ use lib.ListN.{length, take}
 use lib.Pow.{pow-mono}
 use lib.Seq.{length-take-le}
 use Rattle.lists.specs.Answers.{Passes}
-use Rattle.lists.specs.Tables.{length-tab}
 use Rattle.field.specs.Symbols.{symbols}
 use Rattle.proximity.specs.Dim.{S, R}
 use Rattle.proximity.specs.LineLaws.{R-small}
 use Rattle.verifier.proofs.Laws.{one-shifted}
 use Rattle.verifier.specs.Checker.{readsOf, OnCoin}
-use Rattle.stored.specs.Bytes.{twoAt, numbersAt}
+use Rattle.stored.specs.Bytes.{numbersAt}
 use Rattle.stored.specs.Check.{AnsweredFile}
 use Rattle.stored.specs.CheckLaws.{read-passes, read-dimension, read-basis, read-images, read-space, read-laid, read-below, read-answer}
 use Rattle.stored.specs.File.{dimIn, basisIn}
+use Rattle.stored.specs.Packed.{length-numbers}
 use Rattle.stored.specs.Reader.{fileChecks, Told}
 use Rattle.stored.specs.declared.Reading.{Reading}
 use Rattle.coins.specs.Counted.{Counted, counted-most}
@@ -97,13 +97,13 @@ module _ (c : tie.After-coin-bits Inv-loop μ-loop) where
   bounded : coins ≤ 2 ^ 26
   bounded = omega (arith, one-shifted (c .coin-bits .result) (omega (arith, small)), pow-mono {i = c .coin-bits .result} {j = 26} (omega (arith, small)))
 
-  word-is : word ≡ numbersAt (bytes start) (found start .word) (2 ^ k)
+  word-is : word ≡ numbersAt (found start .narrow) (bytes start) (found start .word) (2 ^ k)
   word-is = word-front (bytes start) (found start) (start .pre .0) (start .pre .1) (decoded .word-of .result) (decoded .word-of .ensures .1)
 
   word-fits : symbolCount k ≤ length (decoded .word-of .result)
   word-fits = omega (arith, few-symbols (bytes start) (found start) (start .pre .0) (start .pre .1), decoded .word-of .ensures .0)
 
-  proof-is : proof ≡ numbersAt (bytes start) (found start .proof) (S k)
+  proof-is : proof ≡ numbersAt (found start .narrow) (bytes start) (found start .proof) (S k)
   proof-is = ap (λ (i : ℕ). take i (c .before .proof-of .result)) (decoded .before .proof-length .ensures) ∙ c .before .proof-of .ensures .1
 
   proof-fits : decoded .before .proof-length .result ≤ length (c .before .proof-of .result)
@@ -135,8 +135,8 @@ check-word-requires c κs =
     let t = c .before .before .before .before .before in
     let s = start t in (
       read-space (bytes s) (found s) (told s) (none s),
-      ap length (word-is t) ∙ length-tab (2 ^ k t) (λ i. twoAt (bytes s) (found s .word + 2 * i)),
-      ap length (proof-is t) ∙ length-tab (S (k t)) (λ i. twoAt (bytes s) (found s .proof + 2 * i)),
+      ap length (word-is t) ∙ length-numbers (found s .narrow) (bytes s) (found s .word) (2 ^ k t),
+      ap length (proof-is t) ∙ length-numbers (found s .narrow) (bytes s) (found s .proof) (S (k t)),
     )
 
 -- the verdict at this coin
@@ -162,7 +162,7 @@ module _ (c : tie.After-check-word Inv-loop μ-loop) where
       let v = c .check-word .result in
       let below = read-below file r (told s) (none s) in
       read-answer file r (told s) (none s) (head .loop .coin) inside v
-      (judged m (k at) b (numbersAt file (r .word) (2 ^ k at)) (numbersAt file (r .proof) (S (k at))) (head .loop .coin) (below .0) (below .1) v
+      (judged m (k at) b (numbersAt (r .narrow) file (r .word) (2 ^ k at)) (numbersAt (r .narrow) file (r .proof) (S (k at))) (head .loop .coin) (below .0) (below .1) v
       (transport (λ i. OnCoin (symbols m) (k at) b (word-is at i) (proof-is at i) (head .loop .coin) v) (c .check-word .ensures b (read-basis file r (told s) (none s)) (read-images file r (told s) (none s)))))
 
   passed : Passes (fileChecks file)

@@ -1,13 +1,16 @@
 -- `delivery::checks::coefficient_refusal` meets its contract. Assumes nothing.
-use mathlib.Core.Path.{refl, subst}
+use mathlib.Core.Path.{_≡_, refl, subst, transport}
 use mathlib.Core.Logic.{inl, inr}
+use mathlib.Core.Bool.{false}
 use mathlib.Core.List.{List}
-use Prim.Native.Nat.{ℕ, _-_, _^_, _≤_}
+use Prim.Native.Nat.{ℕ, _+_, _*_, _-_, _^_, _≤_}
 use native.Mathlib.Omega.{arith}
-use Rattle.lists.specs.Answers.{Answers, Passes}
+use Rattle.lists.specs.Answers.{Checks, Answers, Passes}
 use Rattle.field.specs.Binary.{degree}
 use Rattle.space.specs.Sizes.{maxDim}
+use Rattle.stored.specs.Passed.{record-size}
 use Rattle.stored.specs.Reader.{recordChecks}
+use Rattle.stored.specs.declared.Form.{Form}
 use Rattle.delivery.specs.Message.{coefficientRecordAt}
 use Rattle.delivery.specs.MessageLaws.{record-refused, record-after}
 use Rattle.delivery.proofs.Laws.{at-most}
@@ -21,23 +24,16 @@ sub-power c = search needs
 power-requires : tie.Need-power-requires
 power-requires c κs = search needs
 
-mul-at : tie.Need-mul-at
-mul-at c = search needs
+setting-size-requires : tie.Need-setting-size-requires
+setting-size-requires c κs = omega (arith, c .before .before .pre .2)
 
-add-at : tie.Need-add-at
-add-at c = search needs
-
--- how many coefficients there are
-few : (c : tie.After-power) → c .power .result ≤ 2 ^ maxDim
-few c = let a = c .before .before in at-most maxDim (c .power .ensures) (omega (arith, a .pre .2))
-
-record-refusal-requires : tie.Need-record-refusal-requires
-record-refusal-requires c κs = (c .before .before .pre .0, c .before .before .pre .3, omega (arith, few c))
-
--- the record's checks
-module _ (c : tie.After-record-refusal) where
+-- where the record stands, and how many coefficients there are
+module _ (c : tie.After-setting-size) where
   abbrev start : tie.Start
   start = c .before .before .before
+
+  abbrev form : Form
+  form = start .args .form
 
   abbrev t : List ℕ
   t = start .args .message .now
@@ -48,37 +44,63 @@ module _ (c : tie.After-record-refusal) where
   abbrev l : ℕ
   l = degree (start .args .f .modulus)
 
-  answer : Answers (recordChecks t (coefficientRecordAt k) 67 79 (2 ^ (k - 3)) l) (c .record-refusal .result)
+  abbrev checks : Checks
+  checks = recordChecks false t (coefficientRecordAt form k) 67 79 (2 ^ (k - 3)) l
+
+  at : c .setting-size .result ≡ coefficientRecordAt form k
+  at = c .setting-size .ensures
+
+  count : c .before .power .result ≡ 2 ^ (k - 3)
+  count = c .before .power .ensures
+
+  few : c .before .power .result ≤ 2 ^ maxDim
+  few = at-most maxDim count (omega (arith, start .pre .2))
+
+  near : c .setting-size .result ≤ 9 + 2 * maxDim
+  near = omega (arith, at, record-size form k, start .pre .2)
+
+record-refusal-requires : tie.Need-record-refusal-requires
+record-refusal-requires c κs = (start c .pre .0, omega (arith, at c, start c .pre .3), omega (arith, few c))
+
+-- the record's checks
+module _ (c : tie.After-record-refusal) where
+  abbrev here : tie.After-setting-size
+  here = c .before
+
+  answer : Answers (checks here) (c .record-refusal .result)
   answer =
-      subst (λ (n : ℕ). Answers (recordChecks t (coefficientRecordAt k) 67 79 n l) (c .record-refusal .result)) (c .before .power .ensures) (c .record-refusal .ensures)
+      transport (λ i. Answers (recordChecks false (t here) (at here i) 67 79 (count here i) (l here)) (c .record-refusal .result)) (c .record-refusal .ensures)
 
 returns : tie.Need-returns
-returns c = let a = c .before in record-refused (t a) (k a) (l a) (a .record-refusal .result) (omega (arith, c .if1 .taken)) (answer a)
+returns c =
+    let a = c .before in
+    let h = here a in
+    record-refused (form h) (t h) (k h) (l h) (a .record-refusal .result) (omega (arith, c .if1 .taken)) (answer a)
 
 add-if2 : tie.Need-add-if2
-add-if2 c = search needs
+add-if2 c = omega (arith, near (here (c .before)))
 
 mul-if2 : tie.Need-mul-if2
-mul-if2 c = omega (arith, few (c .before .before))
+mul-if2 c = omega (arith, few (here (c .before)))
 
 add-if2-2 : tie.Need-add-if2-2
-add-if2-2 c = omega (arith, few (c .before .before), start (c .before) .pre .2)
+add-if2-2 c = let h = here (c .before) in omega (arith, near h, few h)
 
 -- past them
-passes : (c : tie.Else1) → Passes (recordChecks (t (c .before)) (coefficientRecordAt (k (c .before))) 67 79 (2 ^ (k (c .before) - 3)) (l (c .before)))
-passes c = subst (Answers (recordChecks (t (c .before)) (coefficientRecordAt (k (c .before))) 67 79 (2 ^ (k (c .before) - 3)) (l (c .before)))) (c .if1 .left) (answer (c .before))
+passes : (c : tie.Else1) → Passes (checks (here (c .before)))
+passes c = subst (Answers (checks (here (c .before)))) (c .if1 .left) (answer (c .before))
 
 returns-2 : tie.Need-returns-2
 returns-2 c =
     let e = c .before in
-    let a = e .before in
-    record-after (t a) (k a) (l a) 12 (passes e) (inl (omega (arith, a .before .power .ensures, c .if2 .taken), refl))
+    let h = here (e .before) in
+    record-after (form h) (t h) (k h) (l h) 12 (passes e) (inl (omega (arith, at h, count h, c .if2 .taken), refl))
 
 returns-3 : tie.Need-returns-3
 returns-3 c =
     let e = c .before in
-    let a = e .before in
-    record-after (t a) (k a) (l a) 0 (passes e) (inr ((λ h. omega (arith, a .before .power .ensures, c .if2 .left)), refl))
+    let h = here (e .before) in
+    record-after (form h) (t h) (k h) (l h) 0 (passes e) (inr ((λ g. omega (arith, at h, count h, c .if2 .left)), refl))
 
 pub coefficient-refusal-spec : {M : Type 1} → statement M
 coefficient-refusal-spec =
@@ -86,8 +108,7 @@ coefficient-refusal-spec =
     (tie.spec
     sub-power
     power-requires
-    mul-at
-    add-at
+    setting-size-requires
     record-refusal-requires
     returns
     add-if2

@@ -1,74 +1,61 @@
--- `delivery::parts::numbers_at` meets its contract. The loop's invariant: the first i numbers are written. Assumes nothing.
-use mathlib.Core.Path.{_≡_, subst, _∙_}
-use Prim.Native.Nat.{ℕ, _+_, _*_, _-_, _≤_}
+-- `delivery::parts::numbers_at` meets its contract. Assumes nothing.
+use mathlib.Core.Path.{_≡_, refl, sym, _∙_}
+use mathlib.Core.Bool.{false}
+use mathlib.Core.List.{List}
+use Prim.Native.Nat.{ℕ, _≤_}
 use native.Mathlib.Omega.{arith}
-use Rattle.lists.specs.Filled.{Filled, filled-none, filled-front, filled-take}
-use Rattle.stored.specs.Bytes.{twoAt}
+use lib.ListN.{length, take}
+use lib.Seq.{length-take-le}
+use Rattle.stored.specs.Packed.{front-length, front-numbers}
 use borrow.Author.Needs.{needs}
 use Rattle.delivery.proofs.parts.numbers_at.Statement.{statement}
 use Rattle.delivery.proofs.parts.numbers_at.Tie as tie
 
-abbrev Inv-loop : tie.InvT-loop
-Inv-loop message at count out₀ i₀ out i = (i ≤ count) × Filled 0 i (λ (j : ℕ). twoAt message (at + 2 * j)) out₀ out
-
-abbrev μ-loop : tie.MeasureT-loop
-μ-loop message at count out₀ i₀ out i = count - i
-
-no-numbers-requires : tie.Need-no-numbers-requires Inv-loop μ-loop
+no-numbers-requires : tie.Need-no-numbers-requires
 no-numbers-requires c κs = search needs
 
-loop-holds : tie.Need-loop-holds Inv-loop μ-loop
-loop-holds c = (omega arith, filled-none 0 _ _)
+-- the part that is lent
+module _ (c : tie.After-no-numbers) where
+  abbrev start : tie.Start
+  start = c .before .before
 
-mul-two-at : tie.Need-mul-two-at Inv-loop μ-loop
-mul-two-at c = omega arith
+  abbrev count : ℕ
+  count = start .args .count
 
-add-two-at : tie.Need-add-two-at Inv-loop μ-loop
-add-two-at c = omega arith
+  abbrev zeros : List ℕ
+  zeros = c .no-numbers .result
 
-two-at-requires : tie.Need-two-at-requires Inv-loop μ-loop
-two-at-requires c κs = omega arith
+  fits : count ≤ length zeros
+  fits = omega (arith, start .pre .0, c .no-numbers .ensures)
 
-mul-out : tie.Need-mul-out Inv-loop μ-loop
-mul-out c = omega arith
+  part : length (take count zeros) ≡ count
+  part = length-take-le count zeros fits
 
-array-write-out : tie.Need-array-write-out Inv-loop μ-loop
-array-write-out c = omega arith
+array-borrow-prefix-out : tie.Need-array-borrow-prefix-out
+array-borrow-prefix-out c = fits c
 
-add-i : tie.Need-add-i Inv-loop μ-loop
-add-i c = omega arith
+slice-aggregate-numbers-at : tie.Need-slice-aggregate-numbers-at
+slice-aggregate-numbers-at c = sym (part (c .before))
 
-loop-less : tie.Need-loop-less Inv-loop μ-loop
-loop-less c = omega arith
+numbers-at-requires : tie.Need-numbers-at-requires
+numbers-at-requires c κs = omega (arith, part (c .before), start (c .before) .pre .1)
 
-loop-again : tie.Need-loop-again Inv-loop μ-loop
-loop-again c = (omega arith, filled-front _ (omega (arith, c .before .before .before .no-numbers .ensures)) (c .two-at .ensures) (c .before .before .loop .inv .1))
-
-returns : tie.Need-returns Inv-loop μ-loop
+returns : tie.Need-returns
 returns c =
-    let h = c .before in
-    let start = h .before .before .before in
-    let count = start .args .count in
-    let zeros = h .before .no-numbers .result in
-    let last : h .loop .i ≡ count = omega arith in
-    let written : Filled 0 count (λ (j : ℕ). twoAt (start .args .message .now) (start .args .at + 2 * j)) zeros (h .loop .out) =
-    subst (λ (n : ℕ). Filled 0 n (λ (j : ℕ). twoAt (start .args .message .now) (start .args .at + 2 * j)) zeros (h .loop .out)) last (h .loop .inv .1) in
-    (written .kept ∙ h .before .no-numbers .ensures, filled-take (omega (arith, h .before .no-numbers .ensures)) written)
+    let e = c .before in
+    let z = e .before .before in
+    let a = start z .args in
+    let new : List ℕ = e .numbers-at .last .1 .1 .1 .0 in (
+      front-length false (a .message .now) (a .at) (count z) (zeros z) new (fits z) (e .numbers-at .ensures) ∙ z .no-numbers .ensures,
+      front-numbers false (a .message .now) (a .at) (count z) (zeros z) new (fits z) (e .numbers-at .ensures) refl,
+    )
 
 pub numbers-at-spec : {M : Type 1} → statement M
 numbers-at-spec =
     tie.close
     (tie.spec
-    Inv-loop
-    μ-loop
     no-numbers-requires
-    loop-holds
-    mul-two-at
-    add-two-at
-    two-at-requires
-    mul-out
-    array-write-out
-    add-i
-    loop-less
-    loop-again
+    array-borrow-prefix-out
+    slice-aggregate-numbers-at
+    numbers-at-requires
     returns)

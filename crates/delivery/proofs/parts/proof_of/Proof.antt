@@ -6,7 +6,8 @@ use native.Mathlib.Omega.{arith}
 use lib.ListN.{length, take}
 use lib.Pow.{pow-mono}
 use lib.Seq.{length-take-le}
-use Rattle.prover.specs.Calls.{ProofOf}
+use Rattle.codec.specs.Scratch.{scratchFor}
+use Rattle.prover.specs.Calls.{ProofAt}
 use Rattle.stored.specs.File.{smallDim}
 use Rattle.stored.specs.Short.{short-proof}
 use Rattle.delivery.specs.Steps.{proven}
@@ -14,7 +15,6 @@ use Rattle.delivery.proofs.Laws.{length-back, front-back}
 use borrow.Author.Needs.{needs}
 use Rattle.delivery.proofs.parts.proof_of.Statement.{statement}
 use Rattle.delivery.proofs.parts.proof_of.Tie as tie
-use Rattle.codec.specs.Scratch.{scratchFor}
 
 proof-length-requires : tie.Need-proof-length-requires
 proof-length-requires c κs = search needs
@@ -66,8 +66,8 @@ returns c =
     let long : length new ≡ n s = e .prove .kept .1 .1 .1 .1 .0 ∙ part s in
     let count = s .before .before .proof-length .ensures in (
       length-back (n s) new (zeros s) long (fits s) ∙ s .before .no-proof .ensures,
-      subst (ProofOf (a .modulus) (a .basis .now) (a .word .now)) (sym (front-back (n s) new (zeros s) long count))
-          (proven (a .modulus) (a .basis .now) (start s .pre .0 .sound) (a .word .now) (take (n s) (zeros s)) new (s .no-scratch .result) (e .prove .last .1 .1 .1 .1 .1 .0) (e .prove .result)
+      subst (ProofAt (a .modulus) (a .basis .now) (a .shift) (a .word .now)) (sym (front-back (n s) new (zeros s) long count))
+          (proven (a .modulus) (a .basis .now) (a .shift) (start s .pre .0 .sound) (a .word .now) (take (n s) (zeros s)) new (s .no-scratch .result) (e .prove .last .1 .1 .1 .1 .1 .0) (e .prove .result)
           (start s .pre .1) (part s ∙ count) (room s) (e .prove .ensures)),
     )
 

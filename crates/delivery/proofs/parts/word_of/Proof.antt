@@ -63,7 +63,7 @@ returns c =
     let power = s .before .before .power .ensures in (
       length-back (n s) new (zeros s) long (fits s) ∙ s .before .no-word .ensures,
       front-back (n s) new (zeros s) long power
-          ∙ encoded (a .modulus) (a .basis .now) (start s .pre .0 .sound) (a .coefficients .now) (take (n s) (zeros s)) new (s .no-scratch .result) (e .encode .last .1 .1 .1 .1 .1 .0) (e .encode .result)
+          ∙ encoded (a .modulus) (a .basis .now) (a .shift) (start s .pre .0 .sound) (a .coefficients .now) (take (n s) (zeros s)) new (s .no-scratch .result) (e .encode .last .1 .1 .1 .1 .1 .0) (e .encode .result)
           (start s .pre .1) (part s ∙ power) (omega (arith, few s, s .no-scratch .ensures)) (e .encode .ensures),
     )
 

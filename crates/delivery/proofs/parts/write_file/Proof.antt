@@ -1,94 +1,128 @@
 -- `delivery::parts::write_file` meets its contract. Assumes nothing.
 use mathlib.Core.Path.{_≡_, sym, ap, _∙_, transport}
+use mathlib.Core.Bool.{false}
 use mathlib.Core.List.{List}
-use Prim.Native.Nat.{ℕ, _+_, _*_, _-_, _^_, _≤_}
+use Prim.Native.Nat.{ℕ, _+_, _-_, _^_, _≤_}
 use native.Mathlib.Omega.{arith}
 use lib.ListN.{length, take}
 use lib.Seq.{length-take-le}
+use Rattle.field.specs.Binary.{degree}
+use Rattle.space.specs.Setting.{settingOf}
+use Rattle.space.specs.declared.Setting.{Setting}
+use Rattle.stored.specs.Accepted.{setting-ready, setting-dimension}
 use Rattle.stored.specs.Bytes.{numbersAt}
-use Rattle.stored.specs.File.{fileEnd, smallDim, dimIn, basisIn, modulusIn}
-use Rattle.stored.specs.Passed.{length-basis}
-use Rattle.delivery.specs.Parts.{Small, Coefficients, StoredFile}
+use Rattle.stored.specs.File.{Carries, fileEnd, wordRecordAt, smallDim, formIn, modulusIn, dimIn, basisIn, shiftIn}
+use Rattle.stored.specs.Passed.{basis-first, length-basis, record-size}
+use Rattle.delivery.specs.Parts.{Small, Coefficients, Passed, StoredFile}
 use Rattle.delivery.specs.Message.{coefficientsAt, coefficientsIn}
-use Rattle.delivery.specs.MessageLaws.{message-coefficients}
+use Rattle.delivery.specs.MessageLaws.{message-carries, message-coefficients}
 use Rattle.delivery.proofs.Laws.{at-most}
 use borrow.Author.Needs.{needs}
 use Rattle.delivery.proofs.parts.write_file.Statement.{statement}
 use Rattle.delivery.proofs.parts.write_file.Tie as tie
 
-sub-power : tie.Need-sub-power
-sub-power c = search needs
-
-power-requires : tie.Need-power-requires
-power-requires c κs = search needs
-
-four-at-requires : tie.Need-four-at-requires
-four-at-requires c κs = search needs
-
-numbers-at-requires : tie.Need-numbers-at-requires
-numbers-at-requires c κs = search needs
-
-mul-numbers-at : tie.Need-mul-numbers-at
-mul-numbers-at c = search needs
-
-add-numbers-at : tie.Need-add-numbers-at
-add-numbers-at c = search needs
-
--- how many coefficients there are
-module _ (c : tie.After-numbers-at) where
-  abbrev start : tie.Start
-  start = c .before .before .before .before .before
-
+-- the setting that was read
+module _ (c : tie.Start) where
   abbrev t : List ℕ
-  t = start .args .message .now
+  t = c .args .message .now
+
+  abbrev found : Setting
+  found = c .args .setting
 
   abbrev k : ℕ
-  k = start .args .k
+  k = found .space .k
 
-  abbrev n : ℕ
-  n = c .before .before .power .result
+  held : Passed t
+  held = c .pre .0
+
+  modulus : found .field .modulus ≡ modulusIn t
+  modulus = setting-ready t found (c .pre .1) .modulus
+
+  shift : found .shift ≡ shiftIn t
+  unfolding settingOf
+  shift = ap (λ (s : Setting). s .shift) (c .pre .1 .1)
+
+  dimension : k ≡ dimIn t
+  dimension = setting-dimension t found (c .pre .1)
 
   small : k ≤ smallDim
-  small = omega (arith, start .pre .1, length-basis t, start .pre .0 .setting .few)
+  small = omega (arith, dimension, length-basis t, held .setting .few)
+
+form-of-requires : tie.Need-form-of-requires
+form-of-requires c κs = search needs
+
+sub-power : tie.Need-sub-power
+sub-power c = let s = c .before .before .before in omega (arith, dimension s, held s .head .low)
+
+power-requires : tie.Need-power-requires
+power-requires c κs = let s = c .before .before .before in omega (arith, small s)
+
+setting-size-requires : tie.Need-setting-size-requires
+setting-size-requires c κs = let s = c .before .before .before .before in omega (arith, small s)
+
+-- where the coefficients stand, and how many there are
+module _ (c : tie.After-setting-size) where
+  abbrev formed : tie.After-form-of
+  formed = c .before .before
+
+  abbrev start : tie.Start
+  start = formed .before .before .before
+
+  abbrev n : ℕ
+  n = c .before .power .result
+
+  form : formed .form-of .result ≡ formIn (t start)
+  form = formed .form-of .ensures
+
+  at : c .setting-size .result + 6 ≡ coefficientsAt (formIn (t start)) (dimIn (t start))
+  at = ap (λ (p : ℕ). p + 6) (c .setting-size .ensures ∙ λ i. wordRecordAt (form i) (dimension start i))
 
   few : n ≤ 2 ^ (smallDim - 3)
-  few = at-most (smallDim - 3) (c .before .before .power .ensures) (omega (arith, small))
+  few = at-most (smallDim - 3) (c .before .power .ensures) (omega (arith, small start))
 
-  count : n ≡ 2 ^ (dimIn t - 3)
-  count = c .before .before .power .ensures ∙ ap (λ (j : ℕ). 2 ^ (j - 3)) (start .pre .1)
+  count : n ≡ 2 ^ (dimIn (t start) - 3)
+  count = c .before .power .ensures ∙ ap (λ (j : ℕ). 2 ^ (j - 3)) (dimension start)
 
-numbers-at-requires-2 : tie.Need-numbers-at-requires-2
-numbers-at-requires-2 c κs = (few c, omega (arith, start c .pre .1, count c, start c .pre .0 .coefficients .present))
+add-at : tie.Need-add-at
+add-at c =
+    let s = start c in
+    omega (arith, c .setting-size .ensures, record-size (formed c .form-of .result) (k s), small s)
+
+basis-at-requires : tie.Need-basis-at-requires
+basis-at-requires c κs =
+    let s = start c in
+    (omega (arith, small s), omega (arith, dimension s, held s .head .basis, basis-first (formIn (t s)) (dimIn (t s))))
+
+numbers-at-requires : tie.Need-numbers-at-requires
+numbers-at-requires c κs = let h = c .before in (few h, omega (arith, at h, count h, held (start h) .coefficients .present))
 
 -- what was read
-module _ (c : tie.After-numbers-at2) where
-  abbrev one : tie.After-numbers-at
-  one = c .before
+module _ (c : tie.After-numbers-at) where
+  abbrev here : tie.After-setting-size
+  here = c .before .before
+
+  abbrev got : tie.Start
+  got = start here
 
   abbrev bs : List ℕ
-  bs = take (k one) (one .numbers-at .result)
+  bs = take (k got) (c .before .basis-at .result)
 
   abbrev xs : List ℕ
-  xs = take (n one) (c .numbers-at2 .result)
+  xs = take (n here) (c .numbers-at .result)
 
-  basis-fits : k one ≤ length (one .numbers-at .result)
-  basis-fits = omega (arith, small one, one .numbers-at .ensures .0)
+  basis-fits : k got ≤ length (c .before .basis-at .result)
+  basis-fits = omega (arith, small got, c .before .basis-at .ensures .0)
 
-  fits : n one ≤ length (c .numbers-at2 .result)
-  fits = omega (arith, few one, c .numbers-at2 .ensures .0)
+  fits : n here ≤ length (c .numbers-at .result)
+  fits = omega (arith, few here, c .numbers-at .ensures .0)
 
-  modulus : one .before .four-at .result ≡ modulusIn (t one)
-  modulus = one .before .four-at .ensures
-
-  basis : bs ≡ basisIn (t one)
+  basis : bs ≡ basisIn (t got)
   unfolding basisIn
-  basis = one .numbers-at .ensures .1 ∙ ap (numbersAt (t one) 7) (start one .pre .1)
+  basis = c .before .basis-at .ensures .1 ∙ ap (numbersAt false (t got) 7) (dimension got)
 
-  coefficients : xs ≡ coefficientsIn (t one)
+  coefficients : xs ≡ coefficientsIn (t got)
   unfolding coefficientsIn
-  coefficients =
-      c .numbers-at2 .ensures .1 ∙ ap (numbersAt (t one) (13 + 2 * k one)) (count one)
-      ∙ ap (λ (p : ℕ). numbersAt (t one) p (2 ^ (dimIn (t one) - 3))) {x = 13 + 2 * k one} {y = coefficientsAt (dimIn (t one))} (omega (arith, start one .pre .1))
+  coefficients = c .numbers-at .ensures .1 ∙ λ i. numbersAt false (t got) (at here i) (count here i)
 
 array-share-prefix-basis : tie.Need-array-share-prefix-basis
 array-share-prefix-basis c = basis-fits c
@@ -105,10 +139,13 @@ slice-aggregate-write-coefficients-2 c = sym (length-take-le _ _ (fits (c .befor
 write-coefficients-requires : tie.Need-write-coefficients-requires
 write-coefficients-requires c κs =
     let h = c .before .before .before in
-    let s = start (one h) in (
-      transport (λ i. Small (sym (modulus h) i) (sym (basis h) i)) (s .pre .0 .setting),
-      transport (λ i. Coefficients (sym (modulus h) i) (sym (basis h) i) (sym (coefficients h) i)) (message-coefficients (t (one h)) (s .pre .0)),
-      s .pre .2 ∙ ap fileEnd (sym (length-basis (t (one h))) ∙ ap length (sym (basis h))),
+    let s = got h in
+    let m = modulus s in
+    let g = form (here h) in (
+      transport (λ i. Carries (sym g i) (sym (shift s) i)) (message-carries (t s)),
+      transport (λ i. Small (sym m i) (sym (basis h) i) (sym (shift s) i)) (held s .setting),
+      transport (λ i. Coefficients (sym m i) (sym (basis h) i) (sym (coefficients h) i)) (message-coefficients (t s) (held s)),
+      s .pre .2 ∙ ap (fileEnd (formIn (t s)) (degree (modulusIn (t s)))) (sym (length-basis (t s))) ∙ λ i. fileEnd (sym g i) (degree (sym m i)) (length (sym (basis h) i)),
     )
 
 same-length : tie.Need-same-length
@@ -118,19 +155,21 @@ returns : tie.Need-returns
 returns c =
     let w = c .before .before in
     let h = w .before .before .before .before in
-    transport (λ i. StoredFile (modulus h i) (basis h i) (coefficients h i) (w .write-coefficients .last .1 .1 .1 .0)) (w .write-coefficients .ensures)
+    let s = got h in
+    transport (λ i. StoredFile (form (here h) i) (modulus s i) (basis h i) (shift s i) (coefficients h i) (w .write-coefficients .last .1 .1 .1 .1 .1 .0))
+    (w .write-coefficients .ensures)
 
 pub write-file-spec : {M : Type 1} → statement M
 write-file-spec =
     tie.close
     (tie.spec
+    form-of-requires
     sub-power
     power-requires
-    four-at-requires
+    setting-size-requires
+    add-at
+    basis-at-requires
     numbers-at-requires
-    mul-numbers-at
-    add-numbers-at
-    numbers-at-requires-2
     array-share-prefix-basis
     slice-aggregate-write-coefficients
     array-share-prefix-coefficients

@@ -1,15 +1,15 @@
 -- `stored::check::symbol` meets its contract. Assumes nothing.
 use mathlib.Core.Path.{sym, ap, _∙_, subst}
 use mathlib.Core.List.{List}
-use Prim.Native.Nat.{ℕ, _+_, _*_, _^_, _<_}
+use Prim.Native.Nat.{ℕ, _^_, _<_}
 use native.Mathlib.Omega.{arith}
-use Rattle.lists.specs.Tables.{getD-tab}
 use Rattle.proximity.specs.Dim.{S}
 use Rattle.proximity.specs.PlaceLaws.{place-inside}
 use Rattle.proximity.specs.Reads.{Inside}
 use Rattle.proximity.specs.Verifier.{readAt}
 use Rattle.proximity.specs.declared.Place.{Place}
-use Rattle.stored.specs.Bytes.{twoAt, numbersAt}
+use Rattle.stored.specs.Bytes.{numbersAt}
+use Rattle.stored.specs.Packed.{size-more, getD-numbers}
 use borrow.Author.Needs.{needs}
 use Rattle.stored.proofs.check.symbol.Statement.{statement}
 use Rattle.stored.proofs.check.symbol.Tie as tie
@@ -35,7 +35,7 @@ module _ (c : tie.After-place) where
   inside = subst (Inside (2 ^ k) (S k)) (sym (c .place .ensures)) (place-inside k (start .args .coin) (start .args .i) (start .pre .1))
 
   abbrev read : Place → ℕ
-  read = readAt (numbersAt bytes (start .args .word) (2 ^ k)) (numbersAt bytes (start .args .proof) (S k))
+  read = readAt (numbersAt (start .args .narrow) bytes (start .args .word) (2 ^ k)) (numbersAt (start .args .narrow) bytes (start .args .proof) (S k))
 
 -- in the word
 module _ (c : tie.After-known-told) where
@@ -59,40 +59,28 @@ module _ (c : tie.After-known-told2) where
   in-proof : j < S (k found′)
   in-proof = subst (Inside (2 ^ k found′) (S (k found′))) (c .before .p2 .given .1) (inside found′)
 
-mul-two-at : tie.Need-mul-two-at
-mul-two-at c = let h = in-word c in omega (arith, start (found c) .pre .0 .word-fits, start (found c) .good)
-
-add-two-at : tie.Need-add-two-at
-add-two-at c = let h = in-word c in omega (arith, start (found c) .pre .0 .word-fits, start (found c) .good)
-
-two-at-requires : tie.Need-two-at-requires
-two-at-requires c κs = let h = in-word c in omega (arith, start (found c) .pre .0 .word-fits)
+number-at-requires : tie.Need-number-at-requires
+number-at-requires c κs = let a = start (found c) in omega (arith, size-more (a .args .narrow) (in-word c), a .pre .0 .word-fits)
 
 enum-known-p-2 : tie.Need-enum-known-p-2
 enum-known-p-2 c = search needs
 
-mul-two-at-2 : tie.Need-mul-two-at-2
-mul-two-at-2 c = let h = in-proof c in omega (arith, start (found′ c) .pre .0 .proof-fits, start (found′ c) .good)
-
-add-two-at-2 : tie.Need-add-two-at-2
-add-two-at-2 c = let h = in-proof c in omega (arith, start (found′ c) .pre .0 .proof-fits, start (found′ c) .good)
-
-two-at-requires-2 : tie.Need-two-at-requires-2
-two-at-requires-2 c κs = let h = in-proof c in omega (arith, start (found′ c) .pre .0 .proof-fits)
+number-at-requires-2 : tie.Need-number-at-requires-2
+number-at-requires-2 c κs = let a = start (found′ c) in omega (arith, size-more (a .args .narrow) (in-proof c), a .pre .0 .proof-fits)
 
 returns : tie.Need-returns
 returns c =
     let t = c .before in
     let f = found t in
-    c .two-at .ensures
-    ∙ sym (ap (read f) (sym (f .place .ensures)) ∙ ap (read f) (t .before .p .given .1) ∙ getD-tab (2 ^ k f) (λ n. twoAt (bytes f) (start f .args .word + 2 * n)) (i t) 0 (in-word t))
+    c .number-at .ensures
+    ∙ sym (ap (read f) (sym (f .place .ensures)) ∙ ap (read f) (t .before .p .given .1) ∙ getD-numbers (start f .args .narrow) (bytes f) (start f .args .word) (2 ^ k f) (i t) (in-word t))
 
 returns-2 : tie.Need-returns-2
 returns-2 c =
     let t = c .before in
     let f = found′ t in
-    c .two-at2 .ensures
-    ∙ sym (ap (read f) (sym (f .place .ensures)) ∙ ap (read f) (t .before .p2 .given .1) ∙ getD-tab (S (k f)) (λ n. twoAt (bytes f) (start f .args .proof + 2 * n)) (j t) 0 (in-proof t))
+    c .number-at2 .ensures
+    ∙ sym (ap (read f) (sym (f .place .ensures)) ∙ ap (read f) (t .before .p2 .given .1) ∙ getD-numbers (start f .args .narrow) (bytes f) (start f .args .proof) (S (k f)) (j t) (in-proof t))
 
 pub symbol-spec : {M : Type 1} → statement M
 symbol-spec =
@@ -100,12 +88,8 @@ symbol-spec =
     (tie.spec
     place-requires
     enum-known-p
-    mul-two-at
-    add-two-at
-    two-at-requires
+    number-at-requires
     enum-known-p-2
-    mul-two-at-2
-    add-two-at-2
-    two-at-requires-2
+    number-at-requires-2
     returns
     returns-2)

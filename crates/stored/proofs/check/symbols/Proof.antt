@@ -1,5 +1,6 @@
 -- `stored::check::symbols` meets its contract. The loop's invariant: the first i symbols are written. Assumes nothing.
 use mathlib.Core.Path.{_≡_, sym, ap, _∙_, subst}
+use mathlib.Core.Bool.{Bool}
 use mathlib.Core.List.{List, map}
 use Prim.Native.Nat.{ℕ, _^_, _-_, _≤_, _<_}
 use native.Mathlib.Omega.{arith}
@@ -18,14 +19,14 @@ use Rattle.stored.proofs.check.symbols.Statement.{statement}
 use Rattle.stored.proofs.check.symbols.Tie as tie
 
 -- symbol j of those that the coin reads
-abbrev entry : List ℕ → ℕ → ℕ → ℕ → ℕ → ℕ → ℕ
-entry file word proof k coin j = readAt (numbersAt file word (2 ^ k)) (numbersAt file proof (S k)) (placeAt k coin j)
+abbrev entry : List ℕ → Bool → ℕ → ℕ → ℕ → ℕ → ℕ → ℕ
+entry file narrow word proof k coin j = readAt (numbersAt narrow file word (2 ^ k)) (numbersAt narrow file proof (S k)) (placeAt k coin j)
 
 abbrev Inv-loop : tie.InvT-loop
-Inv-loop file word proof k coin n out₀ i₀ out i = (i ≤ n) × Filled 0 i (entry file word proof k coin) out₀ out
+Inv-loop file narrow word proof k coin n out₀ i₀ out i = (i ≤ n) × Filled 0 i (entry file narrow word proof k coin) out₀ out
 
 abbrev μ-loop : tie.MeasureT-loop
-μ-loop file word proof k coin n out₀ i₀ out i = n - i
+μ-loop file narrow word proof k coin n out₀ i₀ out i = n - i
 
 no-symbols-requires : tie.Need-no-symbols-requires Inv-loop μ-loop
 no-symbols-requires c κs = tt
@@ -67,8 +68,8 @@ returns : tie.Need-returns Inv-loop μ-loop
 returns c =
     let h = c .before in
     let a = h .before .before .before .args in
-    let f = entry (a .file .now) (a .word) (a .proof) (a .k) (a .coin) in
-    let read = readAt (numbersAt (a .file .now) (a .word) (2 ^ a .k)) (numbersAt (a .file .now) (a .proof) (S (a .k))) in
+    let f = entry (a .file .now) (a .narrow) (a .word) (a .proof) (a .k) (a .coin) in
+    let read = readAt (numbersAt (a .narrow) (a .file .now) (a .word) (2 ^ a .k)) (numbersAt (a .narrow) (a .file .now) (a .proof) (S (a .k))) in
     let last : h .loop .i ≡ a .n = omega arith in
     let filled : Filled 0 (a .n) f (h .before .no-symbols .result) (h .loop .out) = subst (λ (i : ℕ). Filled 0 i f (h .before .no-symbols .result) (h .loop .out)) last (h .loop .inv .1) in
     let room : a .n ≤ length (h .before .no-symbols .result) = omega (arith, h .before .no-symbols .ensures, h .before .before .before .pre .1, few-reads (dim (a .k)) (a .coin)) in (

@@ -7,7 +7,6 @@ use lib.ListN.{length, take, length-map}
 use lib.Pow.{pow-pos}
 use Rattle.lists.specs.All.{Below}
 use Rattle.lists.specs.Decides.{Decides, decides-true, decides-false}
-use Rattle.lists.specs.Tables.{length-tab}
 use Rattle.field.specs.Binary.{degree}
 use Rattle.field.specs.Laws.{Ops}
 use Rattle.field.specs.Symbols.{symbols, symbols-field}
@@ -19,7 +18,8 @@ use Rattle.proximity.specs.Reads.{leafBasis, leaf-small, length-positions}
 use Rattle.proximity.specs.Verdict.{leaf-basis}
 use Rattle.proximity.specs.Verifier.{Accepts, positions}
 use Rattle.verifier.specs.Checker.{symbolsAt, readsOf}
-use Rattle.stored.specs.Bytes.{twoAt, numbersAt}
+use Rattle.stored.specs.Bytes.{numbersAt}
+use Rattle.stored.specs.Packed.{length-numbers}
 use Rattle.stored.specs.Leaf.{leaf-low, symbols-below, decides-accepts}
 use Rattle.stored.proofs.Laws.{word-count}
 use Rattle.stored.proofs.check.verdict.Statement.{statement}
@@ -43,10 +43,10 @@ module _ (c : tie.After-leaf-space) where
   K = symbols (start .args .f .modulus)
 
   abbrev w : List ℕ
-  w = numbersAt (start .args .file .now) (start .args .word) (2 ^ k)
+  w = numbersAt (start .args .narrow) (start .args .file .now) (start .args .word) (2 ^ k)
 
   abbrev π : List ℕ
-  π = numbersAt (start .args .file .now) (start .args .proof) (S k)
+  π = numbersAt (start .args .narrow) (start .args .file .now) (start .args .proof) (S k)
 
   abbrev m : ℕ
   m = c .leaf-space .result .k
@@ -111,8 +111,8 @@ module _ (c : tie.After-accepts) where
 
   decides : (b : List ℕ) → Basis (K at) (k at) b → Images (K at) b (start at .args .s .images) → Decides (c .accepts .result) (Accepts (K at) (dim (k at)) b (w at) (π at) (coin at))
   decides b B I =
-      decides-accepts (K at) (k at) b (w at) (π at) (length-tab (2 ^ k at) (λ i. twoAt (start at .args .file .now) (start at .args .word + 2 * i)))
-      (length-tab (S (k at)) (λ i. twoAt (start at .args .file .now) (start at .args .proof + 2 * i))) (coin at) (c .accepts .result)
+      decides-accepts (K at) (k at) b (w at) (π at) (length-numbers (start at .args .narrow) (start at .args .file .now) (start at .args .word) (2 ^ k at))
+      (length-numbers (start at .args .narrow) (start at .args .file .now) (start at .args .proof) (S (k at))) (coin at) (c .accepts .result)
       (subst (λ (j : ℕ). Decides (c .accepts .result) (Codeword (K at) j (leafBasis (K at) (dim (k at)) b (coin at)) (symbolsAt (k at) (w at) (π at) (coin at)))) (at .leaf-space .ensures .dimension)
       (subst (λ (xs : List ℕ). Decides (c .accepts .result) (Codeword (K at) (m at) (leafBasis (K at) (dim (k at)) b (coin at)) xs)) (read got)
       (c .accepts .ensures (leafBasis (K at) (dim (k at)) b (coin at))

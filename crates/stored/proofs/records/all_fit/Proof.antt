@@ -20,7 +20,7 @@ returns c =
     let a = c .before .before .before .args in
     let n = 2 ^ degree (a .f .modulus) in
     let top = c .before .largest .ensures n (pow-pos (degree (a .f .modulus))) in
-    decides-same (c .before .largest .result < n) (Below n (numbersAt (a .file .now) (a .at) (a .count))) (top .0) (top .1) (c .is-symbol .ensures)
+    decides-same (c .before .largest .result < n) (Below n (numbersAt (a .narrow) (a .file .now) (a .at) (a .count))) (top .0) (top .1) (c .is-symbol .ensures)
 
 pub all-fit-spec : {M : Type 1} → statement M
 all-fit-spec = tie.close (tie.spec largest-requires is-symbol-requires returns)

@@ -1,72 +1,44 @@
--- `stored::records::basis_at` meets its contract. The loop's invariant: the first i numbers are written, and the others are 0. Assumes nothing.
-use mathlib.Core.Path.{_≡_, subst}
+-- `stored::records::basis_at` meets its contract. Assumes nothing.
+use mathlib.Core.Path.{_≡_, refl, sym, _∙_}
+use mathlib.Core.Bool.{false}
 use mathlib.Core.List.{List}
-use Prim.Native.Nat.{ℕ, _+_, _*_, _-_, _≤_}
+use Prim.Native.Nat.{ℕ, _≤_}
 use native.Mathlib.Omega.{arith}
-use lib.ListN.{replicate}
-use Rattle.lists.specs.Filled.{Filled, filled-none, filled-front, filled-take}
-use Rattle.stored.specs.Bytes.{twoAt}
+use lib.ListN.{length, take, replicate}
+use lib.Seq.{length-take-le}
+use Rattle.stored.specs.Packed.{front-length, front-numbers}
 use Rattle.stored.proofs.records.basis_at.Statement.{statement}
 use Rattle.stored.proofs.records.basis_at.Tie as tie
 
 abbrev zeros : List ℕ
 zeros = replicate 16 0
 
-abbrev Inv-loop : tie.InvT-loop
-Inv-loop file k out₀ i₀ out i = (i ≤ k) × Filled 0 i (λ (j : ℕ). twoAt file (7 + 2 * j)) zeros out
+part : (k : ℕ) → k ≤ 16 → length (take k zeros) ≡ k
+part k h = length-take-le k zeros h
 
-abbrev μ-loop : tie.MeasureT-loop
-μ-loop file k out₀ i₀ out i = k - i
+array-borrow-prefix-out : tie.Need-array-borrow-prefix-out
+array-borrow-prefix-out c = omega arith
 
-loop-holds : tie.Need-loop-holds Inv-loop μ-loop
-loop-holds c = (omega arith, filled-none 0 _ zeros)
+slice-aggregate-numbers-at : tie.Need-slice-aggregate-numbers-at
+slice-aggregate-numbers-at c = sym (part (c .before .before .args .k) (omega arith))
 
-mul-two-at : tie.Need-mul-two-at Inv-loop μ-loop
-mul-two-at c = omega arith
+numbers-at-requires : tie.Need-numbers-at-requires
+numbers-at-requires c κs = let a = c .before .before .args in omega (arith, part (a .k) (omega arith))
 
-add-two-at : tie.Need-add-two-at Inv-loop μ-loop
-add-two-at c = omega arith
-
-two-at-requires : tie.Need-two-at-requires Inv-loop μ-loop
-two-at-requires c κs = omega arith
-
-mul-out : tie.Need-mul-out Inv-loop μ-loop
-mul-out c = omega arith
-
-array-write-out : tie.Need-array-write-out Inv-loop μ-loop
-array-write-out c = omega arith
-
-add-i : tie.Need-add-i Inv-loop μ-loop
-add-i c = omega arith
-
-loop-less : tie.Need-loop-less Inv-loop μ-loop
-loop-less c = omega arith
-
-loop-again : tie.Need-loop-again Inv-loop μ-loop
-loop-again c = (omega arith, filled-front _ (omega arith) (c .two-at .ensures) (c .before .before .loop .inv .1))
-
-returns : tie.Need-returns Inv-loop μ-loop
+returns : tie.Need-returns
 returns c =
-    let h = c .before in
-    let k = h .before .before .args .k in
-    let last : h .loop .i ≡ k = omega arith in
-    let written : Filled 0 k (λ (j : ℕ). twoAt (h .before .before .args .file .now) (7 + 2 * j)) zeros (h .loop .out) =
-    subst (λ (n : ℕ). Filled 0 n (λ (j : ℕ). twoAt (h .before .before .args .file .now) (7 + 2 * j)) zeros (h .loop .out)) last (h .loop .inv .1) in
-    (written .kept, filled-take (omega arith) written)
+    let e = c .before in
+    let a = e .before .before .before .args in
+    let new : List ℕ = e .numbers-at .last .1 .1 .1 .0 in (
+      front-length false (a .file .now) 7 (a .k) zeros new (omega arith) (e .numbers-at .ensures),
+      front-numbers false (a .file .now) 7 (a .k) zeros new (omega arith) (e .numbers-at .ensures) refl,
+    )
 
 pub basis-at-spec : {M : Type 1} → statement M
 basis-at-spec =
     tie.close
     (tie.spec
-    Inv-loop
-    μ-loop
-    loop-holds
-    mul-two-at
-    add-two-at
-    two-at-requires
-    mul-out
-    array-write-out
-    add-i
-    loop-less
-    loop-again
+    array-borrow-prefix-out
+    slice-aggregate-numbers-at
+    numbers-at-requires
     returns)

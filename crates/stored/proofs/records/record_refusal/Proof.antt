@@ -1,14 +1,14 @@
 -- `stored::records::record_refusal` meets its contract. Assumes nothing.
 use mathlib.Core.Path.{_≡_, refl, sym, _∙_}
 use mathlib.Core.Logic.{inl, inr}
-use Prim.Native.Nat.{_+_, _*_, _^_, _≤_}
+use Prim.Native.Nat.{_+_, _^_, _≤_}
 use native.Mathlib.Omega.{arith}
 use borrow.Author.Tests.{not-true, not-false}
 use lib.ListN.{length}
 use Rattle.lists.specs.All.{Below}
 use Rattle.lists.specs.Decides.{decides-true, decides-false}
 use Rattle.field.specs.Binary.{degree}
-use Rattle.stored.specs.Bytes.{fourAt, numbersAt}
+use Rattle.stored.specs.Bytes.{packedSize, fourAt, numbersAt}
 use Rattle.stored.specs.File.{Opens}
 use borrow.Author.Needs.{needs}
 use Rattle.stored.proofs.records.record_refusal.Statement.{statement}
@@ -50,8 +50,8 @@ add-start c = omega (arith, opened (c .before .before) .present)
 sub-if3 : tie.Need-sub-if3
 sub-if3 c = omega (arith, opened (c .before .before) .present)
 
-mul-if3 : tie.Need-mul-if3
-mul-if3 c = search needs
+packed-size-requires : tie.Need-packed-size-requires
+packed-size-requires c = search needs
 
 -- past the count
 module _ (c : tie.Else2) where
@@ -66,33 +66,38 @@ module _ (c : tie.Else2) where
 
 returns-3 : tie.Need-returns-3
 returns-3 c =
-    let e = c .before in
+    let e = c .before .before in
     let s = six e in
+    let z = c .before .packed-size .ensures in
     inr ((λ g. g (opened (here e))), inr ((λ g. g (count e)), inl (omega arith, refl)))
 
 -- the symbols are there
 module _ (c : tie.Else3) where
-  present : start (here (c .before)) .args .at + 6 + 2 * start (here (c .before)) .args .count ≤ length (start (here (c .before)) .args .file .now)
-  present = let s = six (c .before) in omega arith
+  abbrev counted : tie.Else2
+  counted = c .before .before
+
+  abbrev begun : tie.Start
+  begun = start (here counted)
+
+  present : begun .args .at + 6 + packedSize (begun .args .narrow) (begun .args .count) ≤ length (begun .args .file .now)
+  present = let s = six counted in omega (arith, c .before .packed-size .ensures)
 
 all-fit-requires : tie.Need-all-fit-requires
-all-fit-requires c κs = (start (here (c .before)) .pre .0, present c)
+all-fit-requires c κs = (begun c .pre .0, present c)
 
 module _ (c : tie.After-all-fit) where
-  abbrev begun : tie.Start
-  begun = start (here (c .before .before))
-
   abbrev Fit : Type 0
-  Fit = Below (2 ^ degree (begun .args .f .modulus)) (numbersAt (begun .args .file .now) (begun .args .at + 6) (begun .args .count))
+  Fit =
+      Below (2 ^ degree (begun (c .before) .args .f .modulus)) (numbersAt (begun (c .before) .args .narrow) (begun (c .before) .args .file .now) (begun (c .before) .args .at + 6) (begun (c .before) .args .count))
 
 returns-4 : tie.Need-returns-4
 returns-4 c =
     let t = c .before .before in
     let s = present t in
     inr (
-      (λ g. g (opened (here (t .before)))),
+      (λ g. g (opened (here (counted t)))),
       inr (
-        (λ g. g (count (t .before))),
+        (λ g. g (count (counted t))),
         inr (
           (λ l. omega arith),
           inr ((λ g. g (decides-true (Fit (c .before)) (c .before .all-fit .ensures) (c .if4 .taken))), refl),
@@ -105,9 +110,9 @@ returns-5 c =
     let t = c .before .before in
     let s = present t in
     inr (
-      (λ g. g (opened (here (t .before)))),
+      (λ g. g (opened (here (counted t)))),
       inr (
-        (λ g. g (count (t .before))),
+        (λ g. g (count (counted t))),
         inr (
           (λ l. omega arith),
           inl (decides-false (Fit (c .before)) (c .before .all-fit .ensures) (c .if4 .left), refl),
@@ -127,7 +132,7 @@ record-refusal-spec =
     returns-2
     add-start
     sub-if3
-    mul-if3
+    packed-size-requires
     returns-3
     all-fit-requires
     returns-4

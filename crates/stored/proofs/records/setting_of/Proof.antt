@@ -10,8 +10,8 @@ use Rattle.lists.specs.Answers.{Answers, refused-first}
 use Rattle.field.specs.Binary.{Irreducible}
 use Rattle.field.specs.Checks.{GoodModulus}
 use Rattle.space.specs.Setting.{spaceChecks, SettledBy}
-use Rattle.stored.specs.File.{modulusIn, dimIn, basisIn}
-use Rattle.stored.specs.Passed.{Head, head-passed, settled-after-head}
+use Rattle.stored.specs.File.{formIn, modulusIn, dimIn, basisIn}
+use Rattle.stored.specs.Passed.{basis-first, Head, head-passed, settled-after-head}
 use Rattle.stored.specs.Reader.{headChecks, basisChecks}
 use borrow.Author.Needs.{needs}
 use Rattle.stored.proofs.records.setting_of.Statement.{statement}
@@ -61,7 +61,10 @@ cast-k : tie.Need-cast-k
 cast-k c = omega (arith, c .shared-slice-known2 .given 6)
 
 basis-at-requires : tie.Need-basis-at-requires
-basis-at-requires c κs = let h = head (past (c .before)) in (h .high, h .basis)
+basis-at-requires c κs =
+    let p = past (c .before) in
+    let h = head p in
+    (h .high, omega (arith, h .basis, basis-first (formIn (bytes p)) (dimIn (bytes p))))
 
 -- the basis is the first k of the 16 numbers
 module _ (c : tie.After-basis-at) where
@@ -84,17 +87,21 @@ array-share-prefix-basis c = room c
 slice-aggregate-check-basis : tie.Need-slice-aggregate-check-basis
 slice-aggregate-check-basis c = sym (length-take-le _ _ (room (c .before)))
 
+shift-of-requires : tie.Need-shift-of-requires
+shift-of-requires c κs = let h = head (past (made (c .before))) in (h .opened .present, h .basis)
+
 check-basis-requires : tie.Need-check-basis-requires
 check-basis-requires c κs =
-    let m = made (c .before) in
+    let m = made (c .before .before) in
     (m .field-of .ensures .sized, subst Irreducible (sym (modulus m)) (head (past m) .modulus .irreducible))
 
 returns-2 : tie.Need-returns-2
 returns-2 c =
-    let b = c .before .before in
+    let b = c .before .before .before in
+    let s = c .before .shift-of .ensures in
     let r = c .check-basis .result in
     settled-after-head (f b) (head (past (made b))) r
-    (transport (λ i. SettledBy (spaceChecks (modulus (made b) i) (basis b i) 0) (modulus (made b) i) (basis b i) 0 r) (c .check-basis .ensures))
+    (transport (λ i. SettledBy (spaceChecks (modulus (made b) i) (basis b i) (s i)) (modulus (made b) i) (basis b i) (s i) r) (c .check-basis .ensures))
 
 pub setting-of-spec : {M : Type 1} → statement M
 setting-of-spec =
@@ -110,5 +117,6 @@ setting-of-spec =
     basis-at-requires
     array-share-prefix-basis
     slice-aggregate-check-basis
+    shift-of-requires
     check-basis-requires
     returns-2)

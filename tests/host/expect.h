@@ -1,0 +1,67 @@
+/* What the tests of the host kit share. Each file is lent from an allocation of exactly its length, so that a read past it shows
+ * under valgrind. */
+#ifndef EXPECT_H
+#define EXPECT_H
+
+#include <inttypes.h>
+#include <stdio.h>
+#include <stdlib.h>
+#include <string.h>
+
+#include "proximity.h"
+
+static int passed, failed;
+
+static inline void expect(const char *what, uint32_t got, uint32_t want)
+{
+    if (got == want) {
+        passed++;
+        return;
+    }
+    failed++;
+    printf("%s: %" PRIu32 " in place of %" PRIu32 "\n", what, got, want);
+}
+
+/* A copy of exactly this length; of no bytes it may be NULL. */
+static inline uint8_t *copy_of(const uint8_t *bytes, size_t length)
+{
+    uint8_t *file = malloc(length);
+
+    if (length == 0)
+        return file;
+    if (file == NULL)
+        abort();
+    memcpy(file, bytes, length);
+    return file;
+}
+
+/* What the number of reads holds before each call. */
+#define UNREAD 77777u
+
+static inline void answers(const char *what, const uint8_t *file, size_t length, uint64_t coin, uint32_t answer, uint32_t symbols)
+{
+    uint32_t reads = UNREAD;
+
+    expect(what, proximity_check_file(file, length, coin, &reads), answer);
+    expect(what, reads, symbols);
+}
+
+/* Every call refuses the file, whatever the coin. */
+static inline void refused(const char *what, const uint8_t *bytes, size_t length, uint32_t number)
+{
+    uint8_t *file = copy_of(bytes, length);
+
+    expect(what, proximity_file_refusal(file, length), number);
+    expect(what, proximity_coin_bits(file, length), 0);
+    answers(what, file, length, 0, number, UNREAD);
+    answers(what, file, length, UINT64_MAX, number, UNREAD);
+    free(file);
+}
+
+static inline int closing(void)
+{
+    printf("%d passed, %d failed\n", passed, failed);
+    return failed != 0;
+}
+
+#endif
