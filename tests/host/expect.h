@@ -58,6 +58,21 @@ static inline void refused(const char *what, const uint8_t *bytes, size_t length
     free(file);
 }
 
+/* Every length but the right one. */
+static inline void only_whole(const uint8_t *bytes, size_t length)
+{
+    uint8_t *longer = calloc(length + 1, 1);
+    size_t cut;
+
+    if (longer == NULL)
+        abort();
+    memcpy(longer, bytes, length);
+    for (cut = 0; cut < length; cut++)
+        refused("cut", bytes, cut, PROXIMITY_REFUSED_CUT);
+    refused("a byte appended", longer, length + 1, PROXIMITY_REFUSED_COUNT);
+    free(longer);
+}
+
 static inline int closing(void)
 {
     printf("%d passed, %d failed\n", passed, failed);

@@ -83,16 +83,10 @@ static void refused_records(void)
     }
 }
 
-/* Every length but the right one, and which check comes first in a file that is cut. */
+/* Which check comes first in a file that is cut. */
 static void refused_lengths(void)
 {
-    uint8_t longer[sizeof sample + 1] = {0};
-    size_t length;
-
-    for (length = 0; length < sizeof sample; length++)
-        refused("cut", sample, length, PROXIMITY_REFUSED_CUT);
-    memcpy(longer, sample, sizeof sample);
-    refused("a byte appended", longer, sizeof longer, PROXIMITY_REFUSED_COUNT);
+    only_whole(sample, sizeof sample);
     cut_and_changed("modulus 7 without a basis", 7, 2, 7, PROXIMITY_REFUSED_MODULUS_RANGE);
     cut_and_changed("k = 13 without a basis", 7, 6, 13, PROXIMITY_REFUSED_BASIS_SIZE);
     cut_and_changed("basis element 8 without a shift", 13, 11, 8, PROXIMITY_REFUSED_CUT);

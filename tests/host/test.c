@@ -79,16 +79,10 @@ static void refused_records(void)
     }
 }
 
-/* Every length but the right one, and which check comes first in a file that is cut. */
+/* Which check comes first in a file that is cut. */
 static void refused_lengths(void)
 {
-    uint8_t longer[sizeof sample + 1] = {0};
-    size_t length;
-
-    for (length = 0; length < sizeof sample; length++)
-        refused("cut", sample, length, PROXIMITY_REFUSED_CUT);
-    memcpy(longer, sample, sizeof sample);
-    refused("a byte appended", longer, sizeof longer, PROXIMITY_REFUSED_COUNT);
+    only_whole(sample, sizeof sample);
     cut_and_changed("modulus 7 cut in the head", 6, 2, 7, PROXIMITY_REFUSED_CUT);
     cut_and_changed("modulus 7 without a basis", 7, 2, 7, PROXIMITY_REFUSED_MODULUS_RANGE);
     cut_and_changed("modulus 15 without a basis", 7, 2, 15, PROXIMITY_REFUSED_MODULUS_REDUCIBLE);

@@ -9,7 +9,7 @@ use Rattle.lists.specs.Answers.{Checks, Passes, Refuses}
 use Rattle.field.specs.Symbols.{symbols}
 use Rattle.poly.specs.Shift.{wordAt}
 use Rattle.stored.specs.Bytes.{numbersAt}
-use Rattle.stored.specs.File.{fileOf, wordRecordAt, fileEnd, fileLimit, formIn, modulusIn, degreeIn, dimIn, basisIn, shiftIn, endIn}
+use Rattle.stored.specs.File.{fileOf, wordRecordAt, fileLimit, formIn, modulusIn, degreeIn, dimIn, basisIn, shiftIn, endIn}
 use Rattle.stored.specs.Reader.{settingChecks, recordChecks}
 use Rattle.stored.specs.declared.Form.{Form}
 use Rattle.prover.specs.Calls.{ProofAt}

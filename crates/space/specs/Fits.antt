@@ -1,14 +1,14 @@
 -- The basis of a sound setting has no more elements than the modulus has degree: k ≤ l. Assumes nothing.
 use mathlib.Core.Path.{_≡_, sym, _∙_}
 use mathlib.Core.List.{List}
-use Prim.Native.Nat.{ℕ, zero, suc, _+_, _^_, _≤_, _<_}
+use Prim.Native.Nat.{ℕ, zero, suc, _^_, _≤_, _<_}
 use native.Mathlib.Decide.{ℕ-discrete, decLe}
 use native.Mathlib.Omega.{arith}
 use lib.ListN.{length}
 use lib.Pow.{pow-lt}
 use Rattle.field.specs.Binary.{degree}
 use Rattle.field.specs.Symbols.{symbols}
-use Rattle.poly.specs.Codeword.{Basis, basis-distinct}
+use Rattle.poly.specs.Codeword.{basis-distinct}
 use Rattle.poly.specs.Poly.{Distinct}
 use Rattle.poly.specs.Span.{elem, elem-sym}
 use Rattle.space.specs.Sound.{Sound, sound-field}

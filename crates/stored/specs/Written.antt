@@ -19,7 +19,7 @@ use Rattle.proximity.specs.LineLaws.{S-small}
 use Rattle.stored.specs.Accepted.{Prefix, accepted-passes}
 use Rattle.stored.specs.ByteLaws.{two-back, four-back, getD-after, two-after, four-after, two-below, four-below}
 use Rattle.stored.specs.Bytes.{twoBytes, fourBytes, packed, packedSize, twoAt, fourAt, numbersAt}
-use Rattle.stored.specs.File.{settingMark, wordMark, proofMark, narrowOf, shiftBytes, Carries, settingRecord, symbolRecord, wordRecord, proofRecord, fileOf, wordRecordAt, wordStart, proofRecordAt, proofStart, fileEnd, formIn, modulusIn, dimIn, basisIn, shiftAt, shiftIn, narrowIn, wordIn, proofIn}
+use Rattle.stored.specs.File.{settingMark, wordMark, proofMark, narrowOf, shiftBytes, Carries, settingRecord, symbolRecord, wordRecord, proofRecord, fileOf, wordRecordAt, wordStart, proofRecordAt, proofStart, fileEnd, formIn, modulusIn, dimIn, basisIn, shiftAt, shiftIn, wordIn, proofIn}
 use Rattle.stored.specs.Packed.{numberTop, narrow-top, length-packed, numbers-after, numbers-front, packed-below}
 use Rattle.stored.specs.Passed.{basis-first, Head, Held}
 use Rattle.stored.specs.Reader.{fileChecks}

@@ -2,34 +2,48 @@
 -- shift 0) and `write_form_two`, `Converted f old new u` that of `convert`: the outcome is u, the lent output is old before and new after.
 -- `LengthTold f r` is that of `converted_length`. A list f of bytes has `Below 256 f`.
 use mathlib.Core.Path.{_≡_, refl, sym, ap, _∙_, subst}
-use mathlib.Core.Logic.{_↔_}
-use mathlib.Core.List.{List, map}
-use Prim.Native.Nat.{ℕ, _<_}
+use mathlib.Core.Logic.{_↔_, inl, inr}
+use mathlib.Core.List.{List, [], _∷_, map}
+use Prim.Native.Nat.{ℕ, _+_, _*_, _≤_, _<_}
 use native.Mathlib.Decide.{ℕ-discrete}
 use native.Mathlib.Omega.{arith}
-use lib.ListN.{length}
+use borrow.Author.Tests.{eq-eqb}
+use lib.ListN.{length, getD}
 use Rattle.lists.specs.All.{Below}
-use Rattle.lists.specs.Answers.{Checks, Answers, Passes, Refuses, answers-one, not-refused}
+use Rattle.lists.specs.Answers.{Checks, Answers, Passes, Refuses, answers-after, answers-one, refused-first, not-refused}
+use Rattle.lists.specs.Pick.{pick-true}
+use Rattle.field.specs.Checks.{GoodModulus, good-passes}
+use Rattle.space.specs.Sizes.{maxDim}
+use Rattle.space.specs.Sound.{outside}
 use Rattle.proximity.specs.Dim.{dim}
 use Rattle.proximity.specs.Verifier.{positions, readAt}
 use Rattle.verifier.specs.declared.Verdict.{Verdict}
-use Rattle.stored.specs.Accepted.{accepted}
+use Rattle.stored.specs.Accepted.{setting-numbered, accepted}
 use Rattle.stored.specs.Check.{AnsweredFile}
-use Rattle.stored.specs.File.{Carries, fileEnd, formIn, modulusIn, degreeIn, dimIn, basisIn, shiftAt, shiftIn, wordIn, proofIn}
-use Rattle.stored.specs.Passed.{length-basis}
-use Rattle.stored.specs.Reader.{fileChecks}
+use Rattle.stored.specs.File.{settingMark, wordMark, Carries, wordRecordAt, fileEnd, formIn, modulusIn, degreeIn, dimIn, basisIn, shiftAt, shiftIn, wordIn, proofIn, endIn, Opens}
+use Rattle.stored.specs.Passed.{length-basis, head-late}
+use Rattle.stored.specs.Reader.{headChecks, basisChecks, settingChecks, symbolChecks, prefixChecks, fileChecks}
 use Rattle.stored.specs.Whole.{Gives, accepted-delivery}
 use Rattle.stored.specs.declared.Form.{Form}
-use Rattle.stored.specs.declared.Form.the-variants.{One}
+use Rattle.stored.specs.declared.Form.the-variants.{One, Two}
 use Rattle.filing.specs.Convert.{other, converted, convertedEnd, convertChecks, Converted, LengthTold}
 use Rattle.filing.specs.ConvertLaws.{one-file, converted-accepted, converted-gives, length-converted, there-and-back, shift-refused, shift-passes, convert-refused, convert-long, convert-passes, convert-passed, length-told}
 use Rattle.filing.specs.Filed.{Filed}
-use Rattle.filing.specs.Writer.{writerChecks, Wrote}
+use Rattle.filing.specs.Writer.{Wrote}
 use Rattle.filing.specs.WriterLaws as writer
 use Rattle.filing.specs.declared.ConvertedLength.{ConvertedLength}
 use Rattle.filing.specs.declared.Outcome.{Outcome}
 use Rattle.filing.specs.declared.Outcome.the-variants.{Written, Refused}
 use Rattle.terms.specs.Files.{alike-files}
+
+-- the form that the second byte tells
+second-told : (f : List ℕ) → getD f 1 0 ≡ settingMark Two → formIn f ≡ Two
+unfolding formIn
+second-told f e = pick-true Two One (eq-eqb (getD f 1 0) (settingMark Two) e)
+
+marks-differ : (g : Form) → wordMark g ≡ wordMark (other g) → ⊥
+marks-differ One e = absurd (omega arith)
+marks-differ Two e = absurd (omega arith)
 
 -- a call that no check refuses writes its file
 filed : (cs : Checks) (file old new : List ℕ) (u : Outcome) → Passes cs → Filed cs file old new u → (u ≡ Written) × (new ≡ file)
@@ -40,6 +54,33 @@ filed cs file old new (Refused n) p (r, e) = absurd (not-refused cs p r)
 refused-by : (cs : Checks) (file old new : List ℕ) (u : Outcome) (n : ℕ) → 0 < n → Answers cs n → Filed cs file old new u → u ≡ Refused n
 refused-by cs file old new Written n l a (p, e) = absurd (not-refused cs p (l, a))
 refused-by cs file old new (Refused m) n l a ((k, b), e) = ap Refused (answers-one cs b a)
+
+-- ---- the reader
+
+module _ (f : List ℕ) where
+  abbrev records : Checks
+  records = symbolChecks (formIn f) f (dimIn f) (degreeIn f)
+
+  abbrev end : Checks
+  end = (12, endIn f < length f) ∷ []
+
+  -- A file of form 2 that ends before its shift is whole gets 11, whatever its basis holds.
+  pub shift-missing : Opens f 0 7 83 (settingMark Two) → GoodModulus (modulusIn f) → 3 ≤ dimIn f → dimIn f ≤ maxDim → length f < 9 + 2 * dimIn f → Answers (fileChecks f) 11
+  shift-missing o g l h short =
+      refused-first (prefixChecks f) end 11 (omega arith)
+      (refused-first (settingChecks f) records 11 (omega arith)
+      (refused-first (headChecks f) (basisChecks f) 11 (omega arith)
+      (head-late f (subst (λ (x : Form). Opens f 0 7 83 (settingMark x)) (sym two) o) 11 (good-passes (modulusIn f) g)
+      (inr (outside l h, inl (subst (λ (x : Form). length f < wordRecordAt x (dimIn f)) (sym two) short, refl))))))
+    where
+      two : formIn f ≡ Two
+      two = second-told f (o .second)
+
+  -- The word's mark of the other form gets 11.
+  pub other-mark : Passes (settingChecks f) → getD f (wordRecordAt (formIn f) (dimIn f) + 1) 0 ≡ wordMark (other (formIn f)) → Answers (fileChecks f) 11
+  other-mark p e =
+      refused-first (prefixChecks f) end 11 (omega arith)
+      (answers-after (settingChecks f) records 11 (setting-numbered f) p (inl ((λ o. marks-differ (formIn f) (sym (o .second) ∙ e)), refl)))
 
 -- ---- the writers
 

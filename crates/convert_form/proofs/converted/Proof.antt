@@ -3,9 +3,8 @@ use mathlib.Core.Path.{_≡_, sym}
 use mathlib.Core.List.{List, _++_}
 use Prim.Native.Nat.{ℕ, _≤_}
 use native.Mathlib.Omega.{arith}
-use lib.ListN.{length, take, drop, length-append, length-drop}
+use lib.ListN.{length, take, drop, length-append}
 use lib.Seq.{length-take-le}
-use Rattle.stored.specs.File.{fileLimit}
 use Rattle.filing.specs.ConvertLaws.{converted-short, shift-passed, length-told}
 use borrow.Author.Needs.{needs}
 use Rattle.convert_form.proofs.converted.Statement.{statement}

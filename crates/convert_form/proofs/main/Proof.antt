@@ -1,11 +1,10 @@
 -- `convert_form::main` is safe and ends. Assumes nothing.
-use mathlib.Core.Path.{_≡_, sym}
+use mathlib.Core.Path.{sym}
 use mathlib.Core.List.{List}
-use Prim.Native.Nat.{ℕ, _+_, _≤_}
+use Prim.Native.Nat.{ℕ, _≤_}
 use native.Mathlib.Omega.{arith}
-use lib.ListN.{length, take}
+use lib.ListN.{length}
 use lib.Seq.{length-take-le}
-use Rattle.stored.specs.File.{fileLimit}
 use borrow.Author.Needs.{needs}
 use Rattle.convert_form.proofs.main.Statement.{statement}
 use Rattle.convert_form.proofs.main.Tie as tie

@@ -1,5 +1,5 @@
 -- `filing::converted_length` meets its contract. Assumes nothing.
-use mathlib.Core.Path.{_≡_, refl, sym, ap, _∙_, subst}
+use mathlib.Core.Path.{_≡_, sym, ap, _∙_, subst}
 use mathlib.Core.Logic.{inl, inr}
 use mathlib.Core.List.{List}
 use Prim.Native.Nat.{ℕ, _<_}
@@ -12,10 +12,9 @@ use Rattle.stored.specs.Accepted.{told-accepted, told-refuses, read-places}
 use Rattle.stored.specs.CheckLaws.{read-passes, read-ready, read-dimension}
 use Rattle.stored.specs.File.{layoutOf, formIn, modulusIn, dimIn, basisIn, shiftIn}
 use Rattle.stored.specs.Reader.{fileChecks, readOf}
-use Rattle.stored.specs.declared.Form.{Form}
 use Rattle.stored.specs.declared.Layout.{Layout}
 use Rattle.stored.specs.declared.Reading.{Reading}
-use Rattle.filing.specs.Convert.{other, convertedEnd, shiftChecks, noLength, lengthOf, LengthTold}
+use Rattle.filing.specs.Convert.{other, shiftChecks, noLength, lengthOf, LengthTold}
 use Rattle.filing.specs.ConvertLaws.{file-refused, shift-refused, shift-passes}
 use Rattle.filing.specs.declared.ConvertedLength.{ConvertedLength}
 use borrow.Author.Needs.{needs}

@@ -1,6 +1,5 @@
 -- `filing::conversion::copy` meets its contract. Assumes nothing.
-use mathlib.Core.Path.{_≡_, refl, sym, ap, ap₂, _∙_, subst, transport}
-use mathlib.Core.Bool.{Bool}
+use mathlib.Core.Path.{_≡_, refl, sym, ap, ap₂, _∙_, transport}
 use mathlib.Core.List.{List}
 use Prim.Native.Nat.{ℕ, _*_, _-_, _%_, _^_, _≤_, _<_}
 use native.Mathlib.Nat.{lt-of-lt-of-le}
@@ -15,8 +14,8 @@ use Rattle.proximity.specs.Dim.{S}
 use Rattle.proximity.specs.LineLaws.{S-small}
 use Rattle.stored.specs.Accepted.{Accepted, accepted}
 use Rattle.stored.specs.Bytes.{packedSize, numbersAt}
-use Rattle.stored.specs.File.{narrowOf, settingRecord, wordRecord, proofRecord, wordRecordAt, wordStart, proofRecordAt, proofStart, layoutOf, fileEnd, formIn, modulusIn, degreeIn, dimIn, basisIn, shiftIn, narrowIn, wordIn, proofIn}
-use Rattle.stored.specs.Packed.{numberTop, narrow-top, length-numbers}
+use Rattle.stored.specs.File.{wordMark, proofMark, narrowOf, settingRecord, wordRecord, proofRecord, wordRecordAt, wordStart, proofRecordAt, proofStart, layoutOf, fileEnd, formIn, modulusIn, degreeIn, dimIn, basisIn, shiftIn, narrowIn, wordIn, proofIn}
+use Rattle.stored.specs.Packed.{numberTop, narrow-top}
 use Rattle.stored.specs.Passed.{basis-first, length-basis}
 use Rattle.stored.specs.Reader.{fileChecks}
 use Rattle.stored.specs.Whole.{Delivery, accepted-delivery}
@@ -215,7 +214,7 @@ module _ (c : tie.After-copy-record) where
 
   middle : Put (wordRecordAt (to (s p)) (length (basisIn (f (s p))))) (wordRecord (to (s p)) (l (s p)) (wordIn (f (s p)))) (one begun) two
   middle =
-      put-record-same (second p) (narrow p) (c .before .before .word-mark .ensures ∙ ap Rattle.stored.specs.File.wordMark (target (told (field p)))) (word begun) 87 (one begun) two
+      put-record-same (second p) (narrow p) (c .before .before .word-mark .ensures ∙ ap wordMark (target (told (field p)))) (word begun) 87 (one begun) two
       (c .copy-record .ensures)
 
 proof-length-requires : tie.Need-proof-length-requires
@@ -265,7 +264,7 @@ module _ (c : tie.After-copy-record2) where
 
   last : Put (proofRecordAt (to (s r)) (l (s r)) (length (basisIn (f (s r))))) (proofRecord (to (s r)) (l (s r)) (proofIn (f (s r)))) (two (both measured)) new
   last =
-      put-record-same (third r) (narrow r) (c .before .before .proof-mark .ensures ∙ ap Rattle.stored.specs.File.proofMark (target (told (field r)))) (proof measured) 80 (two (both measured)) new
+      put-record-same (third r) (narrow r) (c .before .before .proof-mark .ensures ∙ ap proofMark (target (told (field r)))) (proof measured) 80 (two (both measured)) new
       (c .copy-record2 .ensures)
 
   written : new ≡ converted (f (s r))

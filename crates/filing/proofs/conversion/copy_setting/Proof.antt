@@ -7,7 +7,7 @@ use native.Mathlib.Omega.{arith}
 use lib.ListN.{length, take}
 use lib.Seq.{length-take-le}
 use Rattle.stored.specs.Bytes.{numbersAt}
-use Rattle.stored.specs.File.{settingRecord, modulusIn, dimIn, basisIn}
+use Rattle.stored.specs.File.{settingRecord, wordRecordAt, modulusIn, basisIn}
 use Rattle.filing.specs.Put.{Put}
 use borrow.Author.Needs.{needs}
 use Rattle.filing.proofs.conversion.copy_setting.Statement.{statement}
@@ -50,7 +50,7 @@ put-setting-requires : tie.Need-put-setting-requires
 put-setting-requires c κs =
     let b = c .before .before in
     let s = start b in
-    (omega (arith, long b, s .pre .0), transport (λ i. Rattle.stored.specs.File.wordRecordAt (s .args .to) (sym (long b) i) ≤ length (s .args .out .now)) (s .pre .3))
+    (omega (arith, long b, s .pre .0), transport (λ i. wordRecordAt (s .args .to) (sym (long b) i) ≤ length (s .args .out .now)) (s .pre .3))
 
 -- the record
 module _ (c : tie.After-put-setting) where

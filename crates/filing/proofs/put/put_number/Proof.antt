@@ -5,7 +5,7 @@ use Prim.Native.Nat.{ℕ, _+_, _*_, _%_, _≤_}
 use native.Mathlib.Omega.{arith}
 use lib.ListN.{length, length-set}
 use Rattle.stored.specs.Bytes.{packedSize}
-use Rattle.filing.specs.Put.{Put, put-narrow, put-wide}
+use Rattle.filing.specs.Put.{put-narrow, put-wide}
 use borrow.Author.Needs.{needs}
 use Rattle.filing.proofs.put.put_number.Statement.{statement}
 use Rattle.filing.proofs.put.put_number.Tie as tie

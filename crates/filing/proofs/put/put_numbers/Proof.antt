@@ -1,5 +1,4 @@
 -- `filing::put::put_numbers` meets its contract. The loop's invariant: the first i numbers are written. Assumes nothing.
-use mathlib.Core.Path.{_≡_}
 use Prim.Native.Nat.{ℕ, _-_, _≤_, _<_}
 use native.Mathlib.Omega.{arith}
 use lib.ListN.{length, take}

@@ -17,7 +17,6 @@ use Rattle.proximity.specs.LineLaws.{S-small}
 use Rattle.stored.specs.Bytes.{packedSize}
 use Rattle.stored.specs.File.{narrowOf, settingRecord, wordRecord, proofRecord, fileOf, wordRecordAt, proofRecordAt, layoutOf, fileEnd}
 use Rattle.stored.specs.Packed.{numberTop, narrow-top}
-use Rattle.stored.specs.Passed.{basis-first}
 use Rattle.stored.specs.Whole.{Delivery}
 use Rattle.stored.specs.declared.Form.{Form}
 use Rattle.stored.specs.declared.Layout.{Layout}

@@ -1,12 +1,10 @@
 -- `stored::bytes::number_at` meets its contract. Assumes nothing.
 use mathlib.Core.Path.{_≡_, sym, ap, _∙_, subst}
 use mathlib.Core.Bool.{Bool, true, false}
-use mathlib.Core.List.{List}
 use Prim.Native.Nat.{ℕ, _+_, _*_, _≤_}
 use native.Mathlib.Omega.{arith}
-use lib.ListN.{length, getD}
+use lib.ListN.{length}
 use Rattle.stored.specs.Bytes.{packedSize, numberAt}
-use borrow.Author.Needs.{needs}
 use Rattle.stored.proofs.bytes.number_at.Statement.{statement}
 use Rattle.stored.proofs.bytes.number_at.Tie as tie
 

@@ -1,6 +1,6 @@
 -- `stored::bytes::numbers_at` meets its contract. The loop's invariant: the first i numbers are written. Assumes nothing.
 use mathlib.Core.Path.{_≡_, refl, subst}
-use Prim.Native.Nat.{ℕ, _+_, _-_, _*_, _≤_}
+use Prim.Native.Nat.{ℕ, _-_, _≤_}
 use native.Mathlib.Omega.{arith}
 use lib.ListN.{length}
 use Rattle.lists.specs.Filled.{Filled, filled-none, filled-front, filled-all}

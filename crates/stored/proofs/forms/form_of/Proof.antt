@@ -8,7 +8,6 @@ use lib.ListN.{length, getD}
 use Rattle.lists.specs.Pick.{pick-true, pick-false}
 use Rattle.stored.specs.File.{formIn}
 use Rattle.stored.specs.declared.Form.the-variants.{One, Two}
-use borrow.Author.Needs.{needs}
 use Rattle.stored.proofs.forms.form_of.Statement.{statement}
 use Rattle.stored.proofs.forms.form_of.Tie as tie
 

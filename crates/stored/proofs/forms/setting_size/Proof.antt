@@ -1,7 +1,5 @@
 -- `stored::forms::setting_size` meets its contract. Assumes nothing.
 use mathlib.Core.Path.{sym, ap}
-use native.Mathlib.Omega.{arith}
-use Prim.Native.Nat.{ℕ}
 use Rattle.stored.specs.File.{wordRecordAt}
 use Rattle.stored.specs.declared.Form.{Form}
 use borrow.Author.Needs.{needs}
