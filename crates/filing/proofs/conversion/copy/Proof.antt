@@ -281,23 +281,5 @@ returns c = written (c .before .before)
 pub copy-spec : {M : Type 1} → statement M
 copy-spec =
     tie.close
-    (tie.spec
-    form-of-requires
-    other-form-requires
-    shared-slice-read-k
-    cast-k
-    four-at-requires
-    field-of-requires
-    layout-requires
-    layout-requires-2
-    copy-setting-requires
-    shl-n
-    sub-word
-    word-mark-requires
-    copy-record-requires
-    proof-length-requires
-    sub-proof
-    proof-mark-requires
-    copy-record-requires-2
-    same-length
-    returns)
+    (tie.spec form-of-requires other-form-requires shared-slice-read-k cast-k four-at-requires field-of-requires layout-requires layout-requires-2 copy-setting-requires
+    shl-n sub-word word-mark-requires copy-record-requires proof-length-requires sub-proof proof-mark-requires copy-record-requires-2 same-length returns)
