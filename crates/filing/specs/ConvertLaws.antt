@@ -11,10 +11,10 @@ use Rattle.lists.specs.Answers.{Checks, Answers, Passes, Refuses, Numbered, ans
 use Rattle.lists.specs.Decides.{equal-stable}
 use Rattle.field.specs.Binary.{degree}
 use Rattle.space.specs.Fits.{sound-fits}
-use Rattle.stored.specs.Accepted.{accepted, prefix-numbered}
-use Rattle.stored.specs.File.{Carries, fileOf, fileEnd, fileLimit, formIn, modulusIn, degreeIn, dimIn, basisIn, shiftIn, wordIn, proofIn, endIn}
+use Rattle.stored.specs.Accepted.{file-numbered, accepted}
+use Rattle.stored.specs.File.{Carries, fileOf, fileEnd, fileLimit, formIn, modulusIn, degreeIn, dimIn, basisIn, shiftIn, wordIn, proofIn}
 use Rattle.stored.specs.Passed.{length-basis}
-use Rattle.stored.specs.Reader.{prefixChecks, fileChecks}
+use Rattle.stored.specs.Reader.{fileChecks}
 use Rattle.stored.specs.Short.{small-file, short-file}
 use Rattle.stored.specs.Whole.{Delivery, Gives, accepted-delivery, accepted-file}
 use Rattle.stored.specs.Written.{length-file, file-accepted, file-gives, file-bytes}
@@ -86,23 +86,20 @@ module _ (f : List ℕ) where
   abbrev fourteen : Checks
   fourteen = (14, (shiftIn f ≡ 0 → ⊥)) ∷ []
 
-  file-numbered : Numbered (fileChecks f)
-  file-numbered = numbered-append (prefixChecks f) ((12, endIn f < length f) ∷ []) (prefix-numbered f) (omega arith, tt)
-
   pub shift-numbered : Numbered (shiftChecks f)
-  shift-numbered = numbered-append (fileChecks f) fourteen file-numbered (omega arith, tt)
+  shift-numbered = numbered-append (fileChecks f) fourteen (file-numbered f) (omega arith, tt)
 
   pub file-refused : (n : ℕ) → 0 < n → Answers (fileChecks f) n → Answers (shiftChecks f) n
   file-refused n l a = refused-first (fileChecks f) fourteen n l a
 
   pub shift-refused : Passes (fileChecks f) → (shiftIn f ≡ 0 → ⊥) → Answers (shiftChecks f) 14
-  shift-refused p n = answers-after (fileChecks f) fourteen 14 file-numbered p (inl (n, refl))
+  shift-refused p n = answers-after (fileChecks f) fourteen 14 (file-numbered f) p (inl (n, refl))
 
   pub shift-passes : Passes (fileChecks f) → shiftIn f ≡ 0 → Passes (shiftChecks f)
-  shift-passes p z = answers-after (fileChecks f) fourteen 0 file-numbered p (inr ((λ g. g z), refl))
+  shift-passes p z = answers-after (fileChecks f) fourteen 0 (file-numbered f) p (inr ((λ g. g z), refl))
 
   pub shift-passed : Passes (shiftChecks f) → Passes (fileChecks f) × (shiftIn f ≡ 0)
-  shift-passed p = go (passes-each (fileChecks f) fourteen file-numbered p)
+  shift-passed p = go (passes-each (fileChecks f) fourteen (file-numbered f) p)
     where
       go : Passes (fileChecks f) × Passes fourteen → Passes (fileChecks f) × (shiftIn f ≡ 0)
       go (q, inl a) = absurd (omega arith)

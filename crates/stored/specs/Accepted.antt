@@ -108,6 +108,9 @@ module _ (f : List ℕ) where
       numbered-append (settingChecks f) (symbolChecks form f k l) (setting-numbered f)
       (numbered-append (wordChecks form f k l) (proofChecks form f k l) word-numbered (record-numbered t f (proofRecordAt form l k) 80 (proofMark form) (S k) l))
 
+  pub file-numbered : Numbered (fileChecks f)
+  file-numbered = numbered-append (prefixChecks f) ((12, endIn f < length f) ∷ []) prefix-numbered (omega arith, tt)
+
   pub accepted : Passes (fileChecks f) → Accepted f
   accepted p = go (passes-each (prefixChecks f) ((12, endIn f < length f) ∷ []) prefix-numbered p)
     where

@@ -5,9 +5,8 @@ use mathlib.Core.Bool.{Bool}
 use mathlib.Core.List.{List, [], _∷_}
 use Prim.Native.Nat.{ℕ, _^_, _≤_, _<_}
 use native.Mathlib.Omega.{arith}
-use lib.ListN.{length}
 use Rattle.lists.specs.All.{Below}
-use Rattle.lists.specs.Answers.{Checks, Passes, Refuses, Numbered, answers-after, refused-first, numbered-append}
+use Rattle.lists.specs.Answers.{Checks, Passes, Refuses, answers-after, refused-first}
 use Rattle.field.specs.Binary.{degree}
 use Rattle.field.specs.Laws.{Ops}
 use Rattle.field.specs.Symbols.{symbols}
@@ -19,12 +18,12 @@ use Rattle.verifier.specs.Checker.{Answered}
 use Rattle.verifier.specs.Parts.{InSpace, ready-space}
 use Rattle.verifier.specs.declared.Verdict.{Verdict}
 use Rattle.verifier.specs.declared.Verdict.the-variants.{Accept, Reject, Refused}
-use Rattle.stored.specs.Accepted.{Accepted, accepted, setting-passes, setting-ready, prefix-numbered, Places, read-places, told-accepted, told-refuses}
+use Rattle.stored.specs.Accepted.{Accepted, accepted, setting-passes, setting-ready, file-numbered, Places, read-places, told-accepted, told-refuses}
 use Rattle.stored.specs.Bytes.{numbersAt}
 use Rattle.stored.specs.Check.{coinChecks, AnsweredFile, Laid, Judged}
-use Rattle.stored.specs.File.{modulusIn, dimIn, basisIn, narrowIn, wordIn, proofIn, endIn}
+use Rattle.stored.specs.File.{modulusIn, dimIn, basisIn, narrowIn, wordIn, proofIn}
 use Rattle.stored.specs.Passed.{length-basis}
-use Rattle.stored.specs.Reader.{prefixChecks, fileChecks, readOf, Told}
+use Rattle.stored.specs.Reader.{fileChecks, readOf, Told}
 use Rattle.stored.specs.declared.Reading.{Reading}
 
 -- ---- the checks
@@ -33,18 +32,15 @@ module _ (f : List ℕ) (coin : ℕ) where
   abbrev eight : Checks
   eight = (8, 2 ^ R (dimIn f) ≤ coin) ∷ []
 
-  file-numbered : Numbered (fileChecks f)
-  file-numbered = numbered-append (prefixChecks f) ((12, endIn f < length f) ∷ []) (prefix-numbered f) (omega arith, tt)
-
   -- a refused file, and a coin out of range
   pub refused-file : (r : Reading) → Told (fileChecks f) f r → (r .refusal ≡ 0 → ⊥) → Refuses (coinChecks f coin) (r .refusal)
   refused-file r t n = let a = told-refuses f (fileChecks f) r t n in (a .0, refused-first (fileChecks f) eight (r .refusal) (a .0) (a .1))
 
   pub refused-coin : Passes (fileChecks f) → 2 ^ R (dimIn f) ≤ coin → Refuses (coinChecks f coin) 8
-  refused-coin p h = (omega arith, answers-after (fileChecks f) eight 8 file-numbered p (inl (h, refl)))
+  refused-coin p h = (omega arith, answers-after (fileChecks f) eight 8 (file-numbered f) p (inl (h, refl)))
 
   pub coin-passes : Passes (fileChecks f) → coin < 2 ^ R (dimIn f) → Passes (coinChecks f coin)
-  coin-passes p h = answers-after (fileChecks f) eight 0 file-numbered p (inr ((λ l. omega arith), refl))
+  coin-passes p h = answers-after (fileChecks f) eight 0 (file-numbered f) p (inr ((λ l. omega arith), refl))
 
 -- the verdict, past the checks
 pub judged-answer : (cs : Checks) (K : Ops) (k : ℕ) (b w π : List ℕ) (coin : ℕ) (v : Verdict) → Passes cs → Judged K k b w π coin v → Answered cs K k b w π coin v

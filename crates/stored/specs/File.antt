@@ -38,7 +38,7 @@ abbrev pub shiftBytes : Form → ℕ → List ℕ
 shiftBytes One σ = []
 shiftBytes Two σ = twoBytes σ
 
--- and so means the shift 0
+-- the shifts that a form can carry: form 1 means the shift 0
 abbrev pub Carries : Form → ℕ → Type 0
 Carries One σ = σ ≡ 0
 Carries Two σ = Unit {0}
@@ -86,7 +86,7 @@ layoutOf form l k = record { narrow = narrowOf form l; word = wordStart form k; 
 
 -- ---- short files
 
--- the most bytes of a file that is counted or made
+-- the most bytes of a file that a program takes or makes
 abbrev pub fileLimit : ℕ
 fileLimit = 40000
 
@@ -116,6 +116,7 @@ dimIn f = getD f 6 0
 unfoldable pub basisIn : List ℕ → List ℕ
 basisIn f = numbersAt false f 7 (dimIn f)
 
+-- the shift, by the form
 abbrev pub shiftAt : Form → List ℕ → ℕ
 shiftAt One f = 0
 shiftAt Two f = twoAt f (7 + 2 * dimIn f)

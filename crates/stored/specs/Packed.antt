@@ -42,6 +42,13 @@ pub length-packed : (t : Bool) (xs : List ℕ) → length (packed t xs) ≡ pack
 length-packed true xs = refl
 length-packed false xs = length-pairs xs
 
+-- by a width that is known
+pub size-narrow : (t : Bool) (n : ℕ) → t ≡ true → packedSize t n ≡ n
+size-narrow t n e = ap (λ (u : Bool). packedSize u n) e
+
+pub size-wide : (t : Bool) (n : ℕ) → t ≡ false → packedSize t n ≡ 2 * n
+size-wide t n e = ap (λ (u : Bool). packedSize u n) e
+
 pub size-more : (t : Bool) {i n : ℕ} → i < n → packedSize t (i + 1) ≤ packedSize t n
 size-more true h = omega arith
 size-more false h = omega arith

@@ -6,10 +6,12 @@ use mathlib.Core.List.{List}
 use Prim.Native.Nat.{ℕ, _+_, _*_, _^_, _≤_, _<_}
 use native.Mathlib.Decide.{decLe}
 use native.Mathlib.Omega.{arith}
+use borrow.Author.Tests.{eq-eqb, ne-eqb}
 use lib.ListN.{length, getD}
 use Rattle.lists.specs.All.{Below, below-stable}
 use Rattle.lists.specs.Answers.{Answers, Passes, Numbered, answers-after, refused-first, passes-each}
 use Rattle.lists.specs.Decides.{equal-stable}
+use Rattle.lists.specs.Pick.{pick-true, pick-false}
 use Rattle.lists.specs.Tables.{length-tab}
 use Rattle.field.specs.Calls.{modulus-numbered}
 use Rattle.field.specs.Checks.{modulusChecks, GoodModulus, modulus-passed, good-passes, not-less}
@@ -37,6 +39,15 @@ opens-stable f p n a b g =
     by-le (no h) k = absurd (k h)
 
 -- ---- the setting record
+
+-- the form, by the second byte
+pub form-two : (f : List ℕ) → getD f 1 0 ≡ settingMark Two → formIn f ≡ Two
+unfolding formIn
+form-two f e = pick-true Two One (eq-eqb (getD f 1 0) (settingMark Two) e)
+
+pub form-one : (f : List ℕ) → (getD f 1 0 ≡ settingMark Two → ⊥) → formIn f ≡ One
+unfolding formIn
+form-one f e = pick-false Two One (ne-eqb (getD f 1 0) (settingMark Two) e)
 
 -- the basis stands in front of the word's record, in either form
 pub basis-first : (form : Form) (k : ℕ) → 7 + 2 * k ≤ wordRecordAt form k

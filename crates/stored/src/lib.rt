@@ -16,7 +16,7 @@ ghost use Rattle.stored.specs.Reader.{symbolChecks, prefixChecks, fileCh
 ghost use Rattle.stored.specs.Check.{AnsweredFile};
 ghost use Rattle.proximity.specs.Dim.{S};
 
-// The most bytes of a file that is counted or made.
+// The most bytes of a file that a program takes or makes.
 pub const FILE_LIMIT: usize = 40000;
 
 // The largest dimension whose stored file is within the limit, and the length of its proof.

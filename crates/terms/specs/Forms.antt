@@ -7,11 +7,9 @@ use mathlib.Core.List.{List, [], _∷_, map}
 use Prim.Native.Nat.{ℕ, _+_, _*_, _≤_, _<_}
 use native.Mathlib.Decide.{ℕ-discrete}
 use native.Mathlib.Omega.{arith}
-use borrow.Author.Tests.{eq-eqb}
 use lib.ListN.{length, getD}
 use Rattle.lists.specs.All.{Below}
 use Rattle.lists.specs.Answers.{Checks, Answers, Passes, Refuses, answers-after, answers-one, refused-first, not-refused}
-use Rattle.lists.specs.Pick.{pick-true}
 use Rattle.field.specs.Checks.{GoodModulus, good-passes}
 use Rattle.space.specs.Sizes.{maxDim}
 use Rattle.space.specs.Sound.{outside}
@@ -21,7 +19,7 @@ use Rattle.verifier.specs.declared.Verdict.{Verdict}
 use Rattle.stored.specs.Accepted.{setting-numbered, accepted}
 use Rattle.stored.specs.Check.{AnsweredFile}
 use Rattle.stored.specs.File.{settingMark, wordMark, Carries, wordRecordAt, fileEnd, formIn, modulusIn, degreeIn, dimIn, basisIn, shiftAt, shiftIn, wordIn, proofIn, endIn, Opens}
-use Rattle.stored.specs.Passed.{length-basis, head-late}
+use Rattle.stored.specs.Passed.{form-two, length-basis, head-late}
 use Rattle.stored.specs.Reader.{headChecks, basisChecks, settingChecks, symbolChecks, prefixChecks, fileChecks}
 use Rattle.stored.specs.Whole.{Gives, accepted-delivery}
 use Rattle.stored.specs.declared.Form.{Form}
@@ -36,11 +34,7 @@ use Rattle.filing.specs.declared.Outcome.{Outcome}
 use Rattle.filing.specs.declared.Outcome.the-variants.{Written, Refused}
 use Rattle.terms.specs.Files.{alike-files}
 
--- the form that the second byte tells
-second-told : (f : List ℕ) → getD f 1 0 ≡ settingMark Two → formIn f ≡ Two
-unfolding formIn
-second-told f e = pick-true Two One (eq-eqb (getD f 1 0) (settingMark Two) e)
-
+-- the marks of the two forms differ
 marks-differ : (g : Form) → wordMark g ≡ wordMark (other g) → ⊥
 marks-differ One e = absurd (omega arith)
 marks-differ Two e = absurd (omega arith)
@@ -74,7 +68,7 @@ module _ (f : List ℕ) where
       (inr (outside l h, inl (subst (λ (x : Form). length f < wordRecordAt x (dimIn f)) (sym two) short, refl))))))
     where
       two : formIn f ≡ Two
-      two = second-told f (o .second)
+      two = form-two f (o .second)
 
   -- The word's mark of the other form gets 11.
   pub other-mark : Passes (settingChecks f) → getD f (wordRecordAt (formIn f) (dimIn f) + 1) 0 ≡ wordMark (other (formIn f)) → Answers (fileChecks f) 11

@@ -4,31 +4,25 @@ use mathlib.Core.Bool.{Bool, true, false}
 use Prim.Native.Nat.{ℕ, _+_, _*_, _%_, _≤_}
 use native.Mathlib.Omega.{arith}
 use lib.ListN.{length, length-set}
-use Rattle.stored.specs.Bytes.{packedSize}
+use Rattle.stored.specs.Packed.{size-narrow, size-wide}
 use Rattle.filing.specs.Put.{put-narrow, put-wide}
 use borrow.Author.Needs.{needs}
 use Rattle.filing.proofs.put.put_number.Statement.{statement}
 use Rattle.filing.proofs.put.put_number.Tie as tie
-
-narrow-fits : (t : Bool) (p i n : ℕ) → t ≡ true → p + packedSize t (i + 1) ≤ n → p + (i + 1) ≤ n
-narrow-fits t p i n e h = subst (λ (v : Bool). p + packedSize v (i + 1) ≤ n) e h
-
-wide-fits : (t : Bool) (p i n : ℕ) → t ≡ false → p + packedSize t (i + 1) ≤ n → p + 2 * (i + 1) ≤ n
-wide-fits t p i n e h = subst (λ (v : Bool). p + packedSize v (i + 1) ≤ n) e h
 
 module _ (c : tie.Then1) where
   abbrev start : tie.Start
   start = c .before .before
 
   fits : start .args .at + (start .args .i + 1) ≤ length (start .args .out .now)
-  fits = narrow-fits (start .args .narrow) (start .args .at) (start .args .i) (length (start .args .out .now)) (c .if1 .taken) (start .pre .0)
+  fits = omega (arith, size-narrow (start .args .narrow) (start .args .i + 1) (c .if1 .taken), start .pre .0)
 
 module _ (c : tie.Else1) where
   abbrev begun : tie.Start
   begun = c .before .before
 
   fits-two : begun .args .at + 2 * (begun .args .i + 1) ≤ length (begun .args .out .now)
-  fits-two = wide-fits (begun .args .narrow) (begun .args .at) (begun .args .i) (length (begun .args .out .now)) (c .if1 .left) (begun .pre .0)
+  fits-two = omega (arith, size-wide (begun .args .narrow) (begun .args .i + 1) (c .if1 .left), begun .pre .0)
 
 cast-out : tie.Need-cast-out
 cast-out c = search needs

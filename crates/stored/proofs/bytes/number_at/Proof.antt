@@ -4,15 +4,10 @@ use mathlib.Core.Bool.{Bool, true, false}
 use Prim.Native.Nat.{ℕ, _+_, _*_, _≤_}
 use native.Mathlib.Omega.{arith}
 use lib.ListN.{length}
-use Rattle.stored.specs.Bytes.{packedSize, numberAt}
+use Rattle.stored.specs.Bytes.{numberAt}
+use Rattle.stored.specs.Packed.{size-narrow, size-wide}
 use Rattle.stored.proofs.bytes.number_at.Statement.{statement}
 use Rattle.stored.proofs.bytes.number_at.Tie as tie
-
-narrow-fits : (t : Bool) (p i n : ℕ) → t ≡ true → p + packedSize t (i + 1) ≤ n → p + (i + 1) ≤ n
-narrow-fits t p i n e h = subst (λ (v : Bool). p + packedSize v (i + 1) ≤ n) e h
-
-wide-fits : (t : Bool) (p i n : ℕ) → t ≡ false → p + packedSize t (i + 1) ≤ n → p + 2 * (i + 1) ≤ n
-wide-fits t p i n e h = subst (λ (v : Bool). p + packedSize v (i + 1) ≤ n) e h
 
 -- one byte
 module _ (c : tie.Then1) where
@@ -20,7 +15,7 @@ module _ (c : tie.Then1) where
   start = c .before .before
 
   fits : start .args .at + (start .args .i + 1) ≤ length (start .args .file .now)
-  fits = narrow-fits (start .args .narrow) (start .args .at) (start .args .i) (length (start .args .file .now)) (c .if1 .taken) (start .pre)
+  fits = omega (arith, size-narrow (start .args .narrow) (start .args .i + 1) (c .if1 .taken), start .pre)
 
 -- two
 module _ (c : tie.Else1) where
@@ -28,7 +23,7 @@ module _ (c : tie.Else1) where
   begun = c .before .before
 
   fits-two : begun .args .at + 2 * (begun .args .i + 1) ≤ length (begun .args .file .now)
-  fits-two = wide-fits (begun .args .narrow) (begun .args .at) (begun .args .i) (length (begun .args .file .now)) (c .if1 .left) (begun .pre)
+  fits-two = omega (arith, size-wide (begun .args .narrow) (begun .args .i + 1) (c .if1 .left), begun .pre)
 
 add-result : tie.Need-add-result
 add-result c = omega (arith, fits c, start c .good)

@@ -3,11 +3,8 @@ use mathlib.Core.Path.{_≡_, refl, sym}
 use mathlib.Core.List.{List, [], _∷_}
 use Prim.Native.Nat.{ℕ, zero, suc, _≤_}
 use native.Mathlib.Omega.{arith}
-use borrow.Author.Tests.{eq-eqb, ne-eqb}
 use lib.ListN.{length, getD}
-use Rattle.lists.specs.Pick.{pick-true, pick-false}
-use Rattle.stored.specs.File.{formIn}
-use Rattle.stored.specs.declared.Form.the-variants.{One, Two}
+use Rattle.stored.specs.Passed.{form-two, form-one}
 use Rattle.stored.proofs.forms.form_of.Statement.{statement}
 use Rattle.stored.proofs.forms.form_of.Tie as tie
 
@@ -16,29 +13,20 @@ past [] i h = refl
 past (x ∷ f) zero h = absurd (omega arith)
 past (x ∷ f) (suc i) h = past f i (omega arith)
 
--- the form by the second byte
-two : (f : List ℕ) → getD f 1 0 ≡ 50 → formIn f ≡ Two
-unfolding formIn
-two f e = pick-true Two One (eq-eqb (getD f 1 0) 50 e)
-
-one : (f : List ℕ) → (getD f 1 0 ≡ 50 → ⊥) → formIn f ≡ One
-unfolding formIn
-one f e = pick-false Two One (ne-eqb (getD f 1 0) 50 e)
-
 returns : tie.Need-returns
 returns c =
     let f = c .before .args .file .now in
     let none : getD f 1 0 ≡ 0 = past f 1 (omega arith) in
-    sym (one f (λ e. omega arith))
+    sym (form-one f (λ e. omega arith))
 
 shared-slice-read-if2 : tie.Need-shared-slice-read-if2
 shared-slice-read-if2 c = omega arith
 
 returns-2 : tie.Need-returns-2
-returns-2 c = sym (two _ (c .if2 .taken))
+returns-2 c = sym (form-two _ (c .if2 .taken))
 
 returns-3 : tie.Need-returns-3
-returns-3 c = sym (one _ (c .if2 .left))
+returns-3 c = sym (form-one _ (c .if2 .left))
 
 pub form-of-spec : {M : Type 1} → statement M
 form-of-spec =
