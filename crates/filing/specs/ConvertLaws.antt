@@ -17,7 +17,7 @@ use Rattle.stored.specs.Passed.{length-basis}
 use Rattle.stored.specs.Reader.{fileChecks}
 use Rattle.stored.specs.Short.{small-file, short-file}
 use Rattle.stored.specs.Whole.{Delivery, Gives, accepted-delivery, accepted-file}
-use Rattle.stored.specs.Written.{length-file, file-accepted, file-gives, file-bytes}
+use Rattle.stored.specs.Written.{length-file, file-accepted, file-gives}
 use Rattle.stored.specs.declared.Form.{Form}
 use Rattle.stored.specs.declared.Form.the-variants.{One, Two}
 use Rattle.filing.specs.Convert.{other, converted, convertedEnd, shiftChecks, convertChecks, lengthOf, LengthTold}
@@ -27,7 +27,7 @@ use Rattle.filing.specs.declared.ConvertedLength.{ConvertedLength}
 pub one-file : {f : List ℕ} {form : Form} {m : ℕ} {bs : List ℕ} {σ : ℕ} {w π : List ℕ} → Below 256 f → Passes (fileChecks f) → Gives f form m bs σ w π → f ≡ fileOf form m bs σ w π
 one-file {f} b p g = accepted-file f b p ∙ λ i. fileOf (g .form i) (g .modulus i) (g .basis i) (g .shift i) (g .word i) (g .proof i)
 
-pub other-back : (g : Form) → other (other g) ≡ g
+other-back : (g : Form) → other (other g) ≡ g
 other-back One = refl
 other-back Two = refl
 
@@ -57,9 +57,6 @@ module _ (f : List ℕ) (p : Passes (fileChecks f)) where
 
   pub converted-gives : Gives (converted f) (other (formIn f)) (modulusIn f) (basisIn f) 0 (wordIn f) (proofIn f)
   converted-gives = file-gives (other (formIn f)) (modulusIn f) (basisIn f) 0 (wordIn f) (proofIn f) unshifted (carries-none (other (formIn f)))
-
-  pub converted-bytes : Below 256 (converted f)
-  converted-bytes = file-bytes (other (formIn f)) (modulusIn f) (basisIn f) 0 (wordIn f) (proofIn f) unshifted (carries-none (other (formIn f)))
 
   pub length-converted : length (converted f) ≡ convertedEnd f
   length-converted =

@@ -18,9 +18,9 @@ use Rattle.proximity.specs.Verifier.{positions, readAt}
 use Rattle.verifier.specs.declared.Verdict.{Verdict}
 use Rattle.stored.specs.Accepted.{setting-numbered, accepted}
 use Rattle.stored.specs.Check.{AnsweredFile}
-use Rattle.stored.specs.File.{settingMark, wordMark, Carries, wordRecordAt, fileEnd, formIn, modulusIn, degreeIn, dimIn, basisIn, shiftAt, shiftIn, wordIn, proofIn, endIn, Opens}
+use Rattle.stored.specs.File.{settingMark, wordMark, proofMark, Carries, wordRecordAt, proofRecordAt, fileEnd, formIn, modulusIn, degreeIn, dimIn, basisIn, shiftAt, shiftIn, wordIn, proofIn, endIn, Opens}
 use Rattle.stored.specs.Passed.{form-two, length-basis, head-late}
-use Rattle.stored.specs.Reader.{headChecks, basisChecks, settingChecks, symbolChecks, prefixChecks, fileChecks}
+use Rattle.stored.specs.Reader.{headChecks, basisChecks, settingChecks, wordChecks, proofChecks, symbolChecks, prefixChecks, fileChecks}
 use Rattle.stored.specs.Whole.{Gives, accepted-delivery}
 use Rattle.stored.specs.declared.Form.{Form}
 use Rattle.stored.specs.declared.Form.the-variants.{One, Two}
@@ -35,9 +35,9 @@ use Rattle.filing.specs.declared.Outcome.the-variants.{Written, Refused}
 use Rattle.terms.specs.Files.{alike-files}
 
 -- the marks of the two forms differ
-marks-differ : (g : Form) → wordMark g ≡ wordMark (other g) → ⊥
-marks-differ One e = absurd (omega arith)
-marks-differ Two e = absurd (omega arith)
+marks-differ : (g : Form) → (wordMark g ≡ wordMark (other g) → ⊥) × (proofMark g ≡ proofMark (other g) → ⊥)
+marks-differ One = (λ e. absurd (omega arith), λ e. absurd (omega arith))
+marks-differ Two = (λ e. absurd (omega arith), λ e. absurd (omega arith))
 
 -- a call that no check refuses writes its file
 filed : (cs : Checks) (file old new : List ℕ) (u : Outcome) → Passes cs → Filed cs file old new u → (u ≡ Written) × (new ≡ file)
@@ -70,11 +70,18 @@ module _ (f : List ℕ) where
       two : formIn f ≡ Two
       two = form-two f (o .second)
 
-  -- The word's mark of the other form gets 11.
-  pub other-mark : Passes (settingChecks f) → getD f (wordRecordAt (formIn f) (dimIn f) + 1) 0 ≡ wordMark (other (formIn f)) → Answers (fileChecks f) 11
-  other-mark p e =
-      refused-first (prefixChecks f) end 11 (omega arith)
-      (answers-after (settingChecks f) records 11 (setting-numbered f) p (inl ((λ o. marks-differ (formIn f) (sym (o .second) ∙ e)), refl)))
+  -- Past the setting's record, one of the word or of the proof with the mark of the other form gets 11.
+  module _ (p : Passes (settingChecks f)) where
+    late : Answers records 11 → Answers (fileChecks f) 11
+    late a = refused-first (prefixChecks f) end 11 (omega arith) (answers-after (settingChecks f) records 11 (setting-numbered f) p a)
+
+    pub other-word-mark : getD f (wordRecordAt (formIn f) (dimIn f) + 1) 0 ≡ wordMark (other (formIn f)) → Answers (fileChecks f) 11
+    other-word-mark e = late (inl ((λ o. marks-differ (formIn f) .0 (sym (o .second) ∙ e)), refl))
+
+    pub other-proof-mark : Passes (wordChecks (formIn f) f (dimIn f) (degreeIn f)) → getD f (proofRecordAt (formIn f) (degreeIn f) (dimIn f) + 1) 0 ≡ proofMark (other (formIn f)) → Answers (fileChecks f) 11
+    other-proof-mark q e =
+        late (answers-after (wordChecks (formIn f) f (dimIn f) (degreeIn f)) (proofChecks (formIn f) f (dimIn f) (degreeIn f)) 11
+        (omega arith, (omega arith, (omega arith, (omega arith, tt)))) q (inl ((λ o. marks-differ (formIn f) .1 (sym (o .second) ∙ e)), refl)))
 
 -- ---- the writers
 
