@@ -79,7 +79,7 @@ pub extern "C" fn proximity_converted_length(file: &[u8], converted: &mut usize)
 // Writes a file in the other form: 0, or the number of a refusal (the file's checks, 14, then 6 for an
 // output of another length), which leaves the output as it came.
 //
-// Ruled out: 0 for an output that is not the whole file; an output that a refused call changes.
+// Ruled out: 0 for a file with a shift other than 0; an output that a refused call changes.
 #[no_mangle]
 pub extern "C" fn proximity_convert(file: &[u8], out: &mut [u8]) -> u32
     ensures { λ r. ⌜ HostConverted (now (file .entry)) (now (out .entry)) (now (out .exit)) r ⌝ }
