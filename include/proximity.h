@@ -30,7 +30,7 @@ extern "C" {
  * Later versions may give other numbers: any answer that is no verdict is a refusal. */
 #define PROXIMITY_REFUSED_MODULUS_RANGE 1u     /* the modulus is below 8 or above 131071 */
 #define PROXIMITY_REFUSED_MODULUS_REDUCIBLE 2u /* the modulus is reducible */
-#define PROXIMITY_REFUSED_BASIS_SIZE 3u        /* the basis has fewer than 3 or more than 12 elements */
+#define PROXIMITY_REFUSED_BASIS_SIZE 3u        /* the basis has fewer than 3 or more than 14 elements */
 #define PROXIMITY_REFUSED_BASIS_RANGE 4u       /* a basis element or the shift is not below 2^l, l being the degree of the
                                                 * modulus */
 #define PROXIMITY_REFUSED_BASIS_DEPENDENT 5u   /* the basis is dependent (a zero or a repeat included) */

@@ -1,4 +1,4 @@
-// There and back at dimension 12 over GF(2^16), with the shift 0 and with another. Of the output a
+// There and back at dimension 14 over GF(2^16), with the shift 0 and with another. Of the output a
 // digest is shown.
 use super::outcome;
 use case_lines::cleared;
@@ -32,19 +32,19 @@ fn fill(values: &mut [u16]) {
     }
 }
 
-fn small_room() -> [u16; 512] {
-    [9u16; 512]
+fn small_room() -> [u16; 2048] {
+    [9u16; 2048]
 }
 
-fn word_room() -> [u16; 4096] {
-    [9u16; 4096]
+fn word_room() -> [u16; 16384] {
+    [9u16; 16384]
 }
 
-fn scratch_room() -> [u16; 16384] {
-    [7u16; 16384]
+fn scratch_room() -> [u16; 65536] {
+    [7u16; 65536]
 }
 
-fn basis() -> [u16; 12] {
+fn basis() -> [u16; 14] {
     [
         1,
         3,
@@ -58,6 +58,8 @@ fn basis() -> [u16; 12] {
         33000,
         40001,
         60007,
+        20000,
+        65000,
     ]
 }
 
@@ -79,11 +81,11 @@ fn decode(label: &[u8], shift: u16, word: &[u16], scratch: &mut [u16]) {
 pub fn largest() {
     let mut word = word_room();
     let mut scratch = scratch_room();
-    encode(b"encode 12:", 0, &mut word, &mut scratch);
-    decode(b"decode 12:", 0, &word, &mut scratch);
-    word[4095] ^= 1;
-    decode(b"decode 12, last symbol changed:", 0, &word, &mut scratch);
-    encode(b"encode 12 at 43981:", 43981, &mut word, &mut scratch);
-    decode(b"decode 12 at 43981:", 43981, &word, &mut scratch);
-    decode(b"decode 12 at 0:", 0, &word, &mut scratch);
+    encode(b"encode 14:", 0, &mut word, &mut scratch);
+    decode(b"decode 14:", 0, &word, &mut scratch);
+    word[16383] ^= 1;
+    decode(b"decode 14, last symbol changed:", 0, &word, &mut scratch);
+    encode(b"encode 14 at 43981:", 43981, &mut word, &mut scratch);
+    decode(b"decode 14 at 43981:", 43981, &word, &mut scratch);
+    decode(b"decode 14 at 0:", 0, &word, &mut scratch);
 }

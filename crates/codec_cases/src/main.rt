@@ -1,6 +1,6 @@
 // The encoder and the decoder on the cases of the file stdin: P5 and P6, a larger setting, each
 // refusal, and where two checks would refuse, with the shift 0; the same kinds of cases with other
-// shifts; then there and back at dimension 12. A line for each call, with its output and the number of
+// shifts; then there and back at dimension 14. A line for each call, with its output and the number of
 // zeros in the scratch, held to the file stdout. Outputs come in as nines, the scratch as sevens.
 mod largest;
 mod text;

@@ -16,7 +16,7 @@ use Rattle.proximity.specs.declared.Line.the-variants.{Row, Column}
 use Rattle.proximity.specs.ByLine.{InRange, lineDim}
 use Rattle.proximity.specs.Prover.{Written}
 
--- a codeword over a space of dimension k, 3 to 12, by the field and the table t
+-- a codeword over a space of dimension k, 3 at least, by the field and the table t
 pub record Proving (f : Field) (k : ℕ) (t w : List ℕ) : Type 0 where
   pub sized : Sized f
   pub irreducible : Irreducible (f .modulus)

@@ -6,7 +6,7 @@ use lib.Pow.{pow-mono}
 use Rattle.lists.specs.Tables.{part-fits}
 use Rattle.space.specs.Sizes.{maxDim}
 use Rattle.proximity.specs.Dim.{half, rowDim, colDim, S}
-use Rattle.proximity.specs.Tree.{S-node}
+use Rattle.proximity.specs.Tree.{S-node, maxProof}
 use Rattle.proximity.specs.LineLaws.{S-small}
 
 pub pow-small : (n : ℕ) → n ≤ 17 → 2 ^ n ≤ 131072
@@ -18,9 +18,9 @@ seven-exact k h = omega (arith, pow-small k h)
 
 -- where the proof of row r begins, with n symbols for each row's proof
 module _ (k r n : ℕ) (s : 7 ≤ k) (h : k ≤ maxDim) (hr : r < 2 ^ colDim k) (en : n ≡ S (rowDim k)) where
-  row-inside : 7 * 2 ^ k + r * n < 67551233
+  row-inside : 7 * 2 ^ k + r * n < maxProof + 1
   row-inside =
-      subst (λ (n : ℕ). 7 * 2 ^ k + r * n < 67551233) (sym en)
+      subst (λ (n : ℕ). 7 * 2 ^ k + r * n < maxProof + 1) (sym en)
       (omega (arith, S-node k s, S-small k (omega arith), part-fits (S (rowDim k)) hr))
 
   pub row-fits : r * n < 18446744073709551616
@@ -34,7 +34,7 @@ module _ (k r n : ℕ) (s : 7 ≤ k) (h : k ≤ maxDim) (hr : r < 2 ^ colDim k) 
 
 -- where the proof of column a begins, after those of the rows, with m symbols for each column's proof
 module _ (k c a n m : ℕ) (s : 7 ≤ k) (h : k ≤ maxDim) (ha : a < 2 ^ (half k + 2)) (ec : c ≡ 2 ^ colDim k) (en : n ≡ S (rowDim k)) (em : m ≡ S (colDim k)) where
-  col-inside : 7 * 2 ^ k + 2 ^ colDim k * S (rowDim k) + a * S (colDim k) < 67551233
+  col-inside : 7 * 2 ^ k + 2 ^ colDim k * S (rowDim k) + a * S (colDim k) < maxProof + 1
   col-inside = omega (arith, S-node k s, S-small k (omega arith), part-fits (S (colDim k)) ha)
 
   products : (c * n ≡ 2 ^ colDim k * S (rowDim k)) × (a * m ≡ a * S (colDim k))

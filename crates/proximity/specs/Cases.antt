@@ -173,7 +173,7 @@ unswapped x a b c m = ⊎-elim (λ t. Memᴰ·append-left c (Memᴰ·append-righ
     second t = ⊎-elim (λ u. Memᴰ·append-left c (Memᴰ·append-left b u)) (λ u. Memᴰ·append-right (a ++ b) u) (List·Memᴰ·append-cases a t)
 
 -- In the order of the row's positions
-row-four : (coin : ℕ) → lineOf 7 coin ≡ Row 4 → positions (dim 7) coin ≡ tab 32 (λ i. InProof (224 + i)) ++ tab 8 (λ i. InWord (32 + i)) ++ tab 24 (λ i. InProof (256 + i))
+pub row-four : (coin : ℕ) → lineOf 7 coin ≡ Row 4 → positions (dim 7) coin ≡ tab 32 (λ i. InProof (224 + i)) ++ tab 8 (λ i. InWord (32 + i)) ++ tab 24 (λ i. InProof (256 + i))
 unfolding pick cell
 row-four coin e = positions-row 7 (omega arith) coin 4 e ∙ ap (map (rowPlace 7 (S 6) 4)) (positions-leaf 6 (omega arith) (bitsLeft 7 coin))
 

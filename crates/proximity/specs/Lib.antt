@@ -31,3 +31,4 @@ pub mod LineImages
 pub mod ImageLaws
 pub mod Cases
 pub mod Places
+pub mod LeafTable

@@ -9,8 +9,9 @@ use Rattle.lists.specs.All.{Below, All-at}
 use Rattle.lists.specs.Tables.{tab, part, part-fits, length-tab, table-at}
 use Rattle.field.specs.Laws.{Ops, IsField}
 use Rattle.poly.specs.Codeword.{Basis}
+use Rattle.space.specs.Sizes.{maxDim}
 use Rattle.proximity.specs.Dim.{rowDim, colDim, dim, S, R}
-use Rattle.proximity.specs.Tree.{S-node, lengths, bits, tables-right}
+use Rattle.proximity.specs.Tree.{S-node, lengths, bits, maxProof, maxBits, tables-right}
 use Rattle.proximity.specs.Proof.{row}
 use Rattle.proximity.specs.declared.Line.{Line}
 use Rattle.proximity.specs.declared.Line.the-variants.{Row, Column}
@@ -35,20 +36,20 @@ line-at-least k s (Row r) = omega arith
 line-at-least k s (Column a) = omega arith
 
 -- S and R are small
-small-at : (f : ℕ → ℕ) (t : List ℕ) (n : ℕ) → t ≡ tab 15 f → 0 < n → Below n t → (k : ℕ) → k ≤ 14 → f k < n
-small-at f t n e p h k l = subst (λ (x : ℕ). x < n) (table-at f t 15 e k (omega arith)) (All-at (λ (x : ℕ). x < n) t 0 h p k)
+small-at : (f : ℕ → ℕ) (t : List ℕ) (n : ℕ) → t ≡ tab (maxDim + 1) f → 0 < n → Below n t → (k : ℕ) → k ≤ maxDim → f k < n
+small-at f t n e p h k l = subst (λ (x : ℕ). x < n) (table-at f t (maxDim + 1) e k (omega arith)) (All-at (λ (x : ℕ). x < n) t 0 h p k)
 
-lengths-small : Below 67551233 lengths
+lengths-small : Below (maxProof + 1) lengths
 lengths-small = omega arith
 
-pub S-small : (k : ℕ) → k ≤ 14 → S k < 67551233
-S-small = small-at S lengths 67551233 (tables-right .0) (omega arith) lengths-small
+pub S-small : (k : ℕ) → k ≤ maxDim → S k < maxProof + 1
+S-small = small-at S lengths (maxProof + 1) (tables-right .0) (omega arith) lengths-small
 
-bits-small : Below 26 bits
+bits-small : Below (maxBits + 1) bits
 bits-small = omega arith
 
-pub R-small : (k : ℕ) → k ≤ 14 → R k < 26
-R-small = small-at R bits 26 (tables-right .1) (omega arith) bits-small
+pub R-small : (k : ℕ) → k ≤ maxDim → R k < maxBits + 1
+R-small = small-at R bits (maxBits + 1) (tables-right .1) (omega arith) bits-small
 
 module _ (k : ℕ) (s : 7 ≤ k) where
   -- The proof of a line lies after the stored rows and inside the proof

@@ -6,6 +6,7 @@ use native.Mathlib.Bridge.{le-prop}
 use native.Mathlib.Decide.{decLe}
 use native.Mathlib.Omega.{arith}
 use Rattle.lists.specs.Tables.{tab}
+use Rattle.space.specs.Sizes.{maxDim}
 use Rattle.proximity.specs.Dim.{half, rowDim, colDim, Dim, leaf, node, size, coinBits, dim, S, R}
 
 pub dim-prop : {k : ℕ} (d e : Dim k) → d ≡ e
@@ -32,14 +33,21 @@ R-leaf k s = ap coinBits (dim-leaf k s)
 pub R-node : (k : ℕ) → 7 ≤ k → R k ≡ 1 + max (colDim k + R (rowDim k)) (half k + 2 + R (colDim k))
 R-node k s = ap coinBits (dim-node k s)
 
--- S and R for k = 0 to 14
+-- S and R for each dimension from 0 to the largest
 abbrev pub lengths : List ℕ
 lengths = 0 ∷ 0 ∷ 0 ∷ 0 ∷ 0 ∷ 0 ∷ 0 ∷ 896 ∷ 16128 ∷ 32256 ∷ 523264 ∷ 1046528 ∷ 2093056 ∷ 4415488 ∷ 67551232 ∷ []
 
 abbrev pub bits : List ℕ
 bits = 0 ∷ 0 ∷ 0 ∷ 0 ∷ 0 ∷ 0 ∷ 0 ∷ 6 ∷ 11 ∷ 12 ∷ 17 ∷ 18 ∷ 19 ∷ 20 ∷ 25 ∷ []
 
--- The computed test: the tables are the recurrences'
-pub tables-right : (lengths ≡ tab 15 S) × (bits ≡ tab 15 R)
+-- the length of the longest proof, and the most bits of a coin
+abbrev pub maxProof : ℕ
+maxProof = 67551232
+
+abbrev pub maxBits : ℕ
+maxBits = 25
+
+-- The computed test, of all dimensions together: the tables are the recurrences'
+pub tables-right : (lengths ≡ tab (maxDim + 1) S) × (bits ≡ tab (maxDim + 1) R)
 unfolding dim decLe
 tables-right = (refl, refl)

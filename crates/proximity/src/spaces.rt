@@ -1,11 +1,16 @@
 // The table of a line's space, from that of the space. No product of the field is needed.
 use super::Line;
+use super::lines::line_dimension;
+use super::lines::line_of;
+use super::lines::rest_of;
 use space::CELLS;
+use space::Space;
 ghost use mathlib.Core.Path.{_≡_};
 ghost use Prim.Native.Nat.{_+_, _≤_, _<_};
 ghost use lib.ListN.{length};
 ghost use Rattle.space.specs.Sizes.{maxDim, cells};
 ghost use Rattle.proximity.specs.LineImages.{addedRow, elementImages, rowImages, columnImages, LineTable};
+ghost use Rattle.proximity.specs.LeafTable.{LeafTable};
 
 // x with row i of the table added.
 fn with_row(images: &[u16; CELLS], i: usize, x: [u16; 16]) -> [u16; 16]
@@ -87,4 +92,24 @@ pub fn line_images(images: &[u16; CELLS], k: usize, line: Line) -> [u16; CELLS]
         Line::Row(r) => row_images(images, k, r),
         Line::Column(_) => column_images(images, k),
     }
+}
+
+// The space at which a coin ends: the same is done with the space of the row or column that the
+// coin takes. The dimension falls each time.
+//
+// Ruled out: the space of the first row or column, where that has a proof of its own; the bits left
+// over after a row taken for those after a column.
+pub fn leaf_space(s: Space, coin: u64) -> Space
+    requires { ⌜ (s .k ≤ maxDim) × (length (s .images) ≡ cells) ⌝ }
+    ensures { λ r. ⌜ LeafTable (s .k) (s .images) coin (r .k) (r .images) ⌝ }
+{
+    let k = s.k;
+    let images = s.images;
+    if k <= 6 {
+        return s;
+    }
+    let line = line_of(k, coin);
+    let t = line_images(&images, k, line);
+    let m = line_dimension(k, line);
+    leaf_space(Space { k: m, images: t }, rest_of(k, coin))
 }

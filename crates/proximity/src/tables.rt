@@ -19,9 +19,11 @@ const LENGTHS: [usize; MAX + 1] = [
     523264,
     1046528,
     2093056,
+    4415488,
+    67551232,
 ];
 
-const BITS: [u32; MAX + 1] = [0, 0, 0, 0, 0, 0, 0, 6, 11, 12, 17, 18, 19];
+const BITS: [u32; MAX + 1] = [0, 0, 0, 0, 0, 0, 0, 6, 11, 12, 17, 18, 19, 20, 25];
 
 // S(k).
 pub fn proof_length(k: usize) -> usize

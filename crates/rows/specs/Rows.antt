@@ -19,7 +19,7 @@ use Rattle.proximity.specs.Dim.{half, colDim}
 use Rattle.proximity.specs.Proof.{slot}
 use Rattle.proximity.specs.LineImages.{elementImages, rowImages}
 
--- the field and the table of a space of dimension 7 to 12
+-- the field and the table of a space of dimension 7 at least
 pub record InTable (f : Field) (k : ℕ) (t : List ℕ) : Type 0 where
   pub sized : Sized f
   pub irreducible : Irreducible (f .modulus)

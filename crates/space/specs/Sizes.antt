@@ -3,7 +3,7 @@ use Prim.Native.Nat.{ℕ, _+_, _-_, _*_, _/_, _^_}
 
 -- the largest dimension
 abbrev pub maxDim : ℕ
-maxDim = 12
+maxDim = 14
 
 -- the table of a space: 16 places for each basis element
 abbrev pub cells : ℕ

@@ -18,7 +18,7 @@ ghost use Rattle.space.specs.Setting.{Tabled, noTables, noSetting, padde
 ghost use Rattle.space.specs.Sizes.{maxDim};
 
 // The largest dimension. The sizes of arrays follow from it.
-pub const MAX: usize = 12;
+pub const MAX: usize = 14;
 
 // The table of a space: 16 places for each basis element.
 pub const CELLS: usize = 16 * MAX;
@@ -28,9 +28,6 @@ pub const LANE_CELLS: usize = (MAX / 2) << (MAX - MAX / 2);
 
 // The symbols of the longest row.
 pub const MAX_LINE: usize = 1 << (MAX / 2 + 3);
-
-// The symbols of the longest column.
-pub const MAX_COLUMN: usize = 1 << (MAX - MAX / 2);
 
 // The coefficients of the longest word.
 pub const MAX_COEFFICIENTS: usize = 1 << (MAX - 3);

@@ -39,7 +39,7 @@ short-proof k h =
 long-proof : (k : ℕ) → smallDim < k → k ≤ maxDim → fileLimit < 2 * S k
 long-proof k l h =
     subst (λ (x : ℕ). fileLimit < 2 * x)
-    (table-at (λ i. S (smallDim + 1 + i)) (drop (smallDim + 1) lengths) 6 (ap (drop (smallDim + 1)) (tables-right .0)) (k - (smallDim + 1)) (omega arith) ∙ ap S {x = smallDim + 1 + (k - (smallDim + 1))} {y = k} (omega arith))
+    (table-at (λ i. S (smallDim + 1 + i)) (drop (smallDim + 1) lengths) (maxDim - smallDim) (ap (drop (smallDim + 1)) (tables-right .0)) (k - (smallDim + 1)) (omega arith) ∙ ap S {x = smallDim + 1 + (k - (smallDim + 1))} {y = k} (omega arith))
     (All-inside (λ (x : ℕ). fileLimit < 2 * x) (drop (smallDim + 1) lengths) 0 (omega arith) (k - (smallDim + 1)) (omega arith))
 
 -- ---- the files of these dimensions are within the limit in either form, and none of a larger dimension

@@ -3,7 +3,6 @@
 use super::bytes;
 use field::Field;
 use proximity::Place;
-use proximity::lines;
 use proximity::places;
 use proximity::spaces;
 use space::CELLS;
@@ -20,7 +19,6 @@ ghost use Rattle.field.specs.Binary.{degree};
 ghost use Rattle.field.specs.Symbols.{symbols};
 ghost use Rattle.poly.specs.Codeword.{Basis, Codeword};
 ghost use Rattle.space.specs.Images.{Images};
-ghost use Rattle.space.specs.Sizes.{maxDim, cells};
 ghost use Rattle.transform.specs.Blocks.{InBlocks};
 ghost use Rattle.proximity.specs.ByLine.{placeAt};
 ghost use Rattle.proximity.specs.Dim.{S};
@@ -29,24 +27,6 @@ ghost use Rattle.verifier.specs.Checker.{symbolsAt, readsOf};
 ghost use Rattle.verifier.specs.Parts.{InSpace};
 ghost use Rattle.stored.specs.Bytes.{numbersAt};
 ghost use Rattle.stored.specs.Check.{Laid, Judged};
-ghost use Rattle.stored.specs.Leaf.{LeafTable};
-
-// The space at which a coin ends: the same is done with the space of the row or column that the
-// coin takes. The dimension falls each time.
-fn leaf_space(s: Space, coin: u64) -> Space
-    requires { ⌜ (s .k ≤ maxDim) × (length (s .images) ≡ cells) ⌝ }
-    ensures { λ r. ⌜ LeafTable (s .k) (s .images) coin (r .k) (r .images) ⌝ }
-{
-    let k = s.k;
-    let images = s.images;
-    if k <= 6 {
-        return s;
-    }
-    let line = lines::line_of(k, coin);
-    let t = spaces::line_images(&images, k, line);
-    let m = lines::line_dimension(k, line);
-    leaf_space(Space { k: m, images: t }, lines::rest_of(k, coin))
-}
 
 fn no_symbols() -> [u16; 64]
     ensures { λ r. ⌜ length r ≡ 64 ⌝ }
@@ -120,7 +100,7 @@ pub fn verdict(
     ensures { λ v. ⌜ ((b : List ℕ) → Basis (symbols (f .modulus)) (s .k) b → Images (symbols (f .modulus)) b (s .images) → Judged (symbols (f .modulus)) (s .k) b (numbersAt narrow (now (file .entry)) word (2 ^ s .k)) (numbersAt narrow (now (file .entry)) proof (S (s .k))) coin v) ⌝ }
 {
     let k = s.k;
-    let t = leaf_space(s, coin);
+    let t = spaces::leaf_space(s, coin);
     let m = t.k;
     let images = t.images;
     let n = 1usize << m;

@@ -11,6 +11,7 @@ pub mod Corrections
 pub mod Terms
 pub mod Shifts
 pub mod UnusedBits
+pub mod Dimensions
 pub mod Settings
 pub mod CaseVerdicts
 pub mod Cases

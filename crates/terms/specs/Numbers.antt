@@ -12,7 +12,7 @@ abbrev pub numbers : List (ℕ × String)
 numbers =
     (1, "the modulus is below 8 or above 131071")
     ∷ (2, "the modulus is reducible")
-    ∷ (3, "the basis has fewer than 3 or more than 12 elements")
+    ∷ (3, "the basis has fewer than 3 or more than 14 elements")
     ∷ (4, "a basis element or the shift is not below 2^l, l being the degree of the modulus")
     ∷ (5, "the basis is dependent (a zero or a repeat included)")
     ∷ (6, "a lent list has another length than the setting fixes, or a file is above its limit")

@@ -7,13 +7,14 @@ use lib.ListN.{length, length-map}
 use Rattle.lists.specs.All.{All}
 use Rattle.lists.specs.Answers.{Passes, Refuses}
 use Rattle.lists.specs.Members.{map-through, map-tab}
-use Rattle.lists.specs.Tables.{tab-of, length-tab}
+use Rattle.lists.specs.Tables.{tab, tab-of, length-tab}
 use Rattle.field.specs.Laws.{Ops}
 use Rattle.poly.specs.Codeword.{Codeword}
-use Rattle.proximity.specs.ByLine.{InRange, lineDim, lineBasis, lineWord, lineProof, linePlace}
+use Rattle.proximity.specs.ByLine.{InRange, lineDim, lineBasis, lineWord, lineProof, linePlace, placeAt}
 use Rattle.proximity.specs.Dim.{dim, S}
 use Rattle.proximity.specs.LineLaws.{accepts-of-line, positions-of-line, line-in-range}
-use Rattle.proximity.specs.Reads.{Inside, read-row, read-col, positions-inside}
+use Rattle.proximity.specs.PlaceLaws.{positions-table}
+use Rattle.proximity.specs.Reads.{Inside, read-row, read-col, positions-inside, leafDim, leafBasis, leaf-small, length-positions, reads}
 use Rattle.proximity.specs.Steps.{accepts-leaf, positions-leaf}
 use Rattle.proximity.specs.Tree.{S-node}
 use Rattle.proximity.specs.Verifier.{Accepts, positions, readAt, lineOf, bitsLeft}
@@ -43,6 +44,10 @@ of-by K k b w π coin (Refused n) a = a
 
 by-same : (K : Ops) {xs ys : List ℕ} {m n : ℕ} {P Q : Type 0} → xs ≡ ys → m ≡ n → P ≡ Q → (v : Verdict) → By K xs m P v → By K ys n Q v
 by-same K ex em ep v = transport (λ i. By K (ex i) (em i) (ep i) v)
+
+-- the symbols that a coin reads, by number
+pub symbols-table : (k : ℕ) (w π : List ℕ) (coin : ℕ) → tab (readsOf k coin) (λ (i : ℕ). readAt w π (placeAt k coin i)) ≡ symbolsAt k w π coin
+symbols-table k w π coin = sym (ap (map (readAt w π)) (positions-table k coin) ∙ map-tab (readAt w π) (readsOf k coin) (placeAt k coin))
 
 -- what is read of a line is what the coin reads
 module _ (k : ℕ) (s : 7 ≤ k) (w π : List ℕ) (lw : length w ≡ 2 ^ k) (lπ : length π ≡ S k) where
@@ -82,3 +87,24 @@ module _ (K : Ops) (k : ℕ) (s : k ≤ 6) (b w π : List ℕ) (lw : length w �
 
   pub on-short : (v : Verdict) → By K w (2 ^ k) (Codeword K k b w) v → OnCoin K k b w π coin v
   on-short v a = of-by K k b w π coin v (by-same K symbols-short reads-short (sym (accepts-leaf K k b w π s coin)) v a)
+
+-- the symbols that a coin reads are a short word over the space at which it ends
+module _ (K : Ops) (k : ℕ) (b w π : List ℕ) (lw : length w ≡ 2 ^ k) (lπ : length π ≡ S k) (coin : ℕ) where
+  abbrev m : ℕ
+  m = leafDim (dim k) coin
+
+  abbrev basis : List ℕ
+  basis = leafBasis K (dim k) b coin
+
+  abbrev read : List ℕ
+  read = symbolsAt k w π coin
+
+  long : length read ≡ 2 ^ m
+  long = length-map (positions (dim k) coin) (readAt w π) ∙ length-positions (dim k) coin
+
+  pub on-leaf : (ρ : List ℕ) (c : ℕ) (v : Verdict) → OnCoin K m basis read ρ c v → OnCoin K k b w π coin v
+  on-leaf ρ c v a =
+      of-by K k b w π coin v
+      (by-same K (sym (symbols-short K m (leaf-small (dim k) coin) basis read ρ long c)) (sym (reads-short K m (leaf-small (dim k) coin) basis read ρ long c) ∙ sym (length-positions (dim k) coin))
+      (accepts-leaf K m basis read ρ (leaf-small (dim k) coin) c ∙ sym (reads K (dim k) b w π lw lπ coin)) v
+      (to-by K m basis read ρ c v a))

@@ -24,7 +24,7 @@ pub record InParts (near far : List ℕ) (slot : ℕ) : Type 0 where
 unfoldable pub joined : List ℕ → List ℕ → ℕ → List ℕ
 joined near far slot = insert (slot * length near) near far
 
--- f and the table t are those of a space of dimension k, 3 to 12
+-- f and the table t are those of a space of dimension k, 3 at least
 pub record InSpace (f : Field) (k : ℕ) (t : List ℕ) : Type 0 where
   pub sized : Sized f
   pub irreducible : Irreducible (f .modulus)

@@ -10,10 +10,11 @@ ghost use Prim.Native.Nat.{_+_, _-_, _*_, _%_, _^_, _<_, _≤_};
 ghost use lib.ListN.{length, take, drop, getD};
 ghost use Rattle.lists.specs.Tables.{part};
 ghost use Rattle.space.specs.Sizes.{maxDim};
-ghost use Rattle.proximity.specs.Dim.{half, rowDim, colDim, S};
-ghost use Rattle.proximity.specs.Proof.{row};
-ghost use Rattle.proximity.specs.ByLine.{InRange, lineProof};
-ghost use Rattle.verifier.specs.Parts.{InParts, joined};
+ghost use Rattle.proximity.specs.Dim.{half, colDim, S};
+ghost use Rattle.proximity.specs.ByLine.{InRange, lineProof, placeAt};
+ghost use Rattle.proximity.specs.Verifier.{readAt};
+ghost use Rattle.verifier.specs.Checker.{readsOf};
+ghost use Rattle.verifier.specs.Parts.{InParts, Lent, joined};
 
 // Block j, as a part of one of the two lent slices.
 pub fn block<'a>(near: &'a [u16], far: &'a [u16], slot: usize, j: usize) -> &'a [u16]
@@ -90,21 +91,20 @@ pub fn line_proof(proof: &[u16], k: usize, line: Line) -> &[u16]
     &proof[at..end]
 }
 
-// Symbol i of row r.
-pub fn row_symbol<'a>(
+// The symbol of number i that a coin reads, from its own place.
+pub fn read_symbol<'a>(
     near: &'a [u16],
     far: &'a [u16],
     slot: usize,
     proof: &'a [u16],
     k: usize,
-    r: usize,
+    coin: u64,
     i: usize,
 ) -> u16
-    requires { ⌜ InParts (now near) (now far) slot × (length (now near) ≡ 2 ^ (k - 3)) × (7 ≤ k) × (k ≤ maxDim) × (length (now proof) ≡ S k) ⌝ }
-    requires { ⌜ (r < 2 ^ colDim k) × (i < 2 ^ rowDim k) ⌝ }
-    ensures { λ s. ⌜ s ≡ getD (row k (joined (now (near .entry)) (now (far .entry)) slot) (now (proof .entry)) r) i 0 ⌝ }
+    requires { ⌜ Lent k (now near) (now far) slot (now proof) × (3 ≤ k) × (k ≤ maxDim) × (i < readsOf k coin) ⌝ }
+    ensures { λ s. ⌜ s ≡ readAt (joined (now (near .entry)) (now (far .entry)) slot) (now (proof .entry)) (placeAt k coin i) ⌝ }
 {
-    match places::row_place(k, r, i) {
+    match places::place(k, coin, i) {
         Place::InWord(at) => symbol(near, far, slot, (k - 3) as u32, at),
         Place::InProof(at) => proof[at],
     }

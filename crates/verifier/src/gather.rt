@@ -1,16 +1,13 @@
-// Symbols gathered into a local array: a column, and a short word in lanes.
+// Symbols gathered into a local array: those that a coin reads, and a short word in lanes.
 use super::blocks;
-use proximity::lines;
-use space::MAX_COLUMN;
 use transform::slices;
 ghost use mathlib.Core.Path.{_≡_};
-ghost use Prim.Native.Nat.{_+_, _-_, _^_, _<_, _≤_};
+ghost use Prim.Native.Nat.{_≤_};
 ghost use lib.ListN.{length, take};
-ghost use Rattle.space.specs.Sizes.{maxDim, maxColumn};
+ghost use Rattle.space.specs.Sizes.{maxDim};
 ghost use Rattle.transform.specs.Slices.{Transposed};
-ghost use Rattle.proximity.specs.Dim.{half, colDim, S};
-ghost use Rattle.proximity.specs.Proof.{column};
-ghost use Rattle.verifier.specs.Parts.{InParts, joined, noSymbols};
+ghost use Rattle.verifier.specs.Checker.{symbolsAt, readsOf};
+ghost use Rattle.verifier.specs.Parts.{InParts, Lent, joined, noSymbols};
 
 fn no_symbols() -> [u16; 64]
     ensures { λ r. ⌜ r ≡ noSymbols ⌝ }
@@ -18,30 +15,24 @@ fn no_symbols() -> [u16; 64]
     [0u16; 64]
 }
 
-fn no_column() -> [u16; MAX_COLUMN]
-    ensures { λ r. ⌜ length r ≡ maxColumn ⌝ }
-{
-    [0u16; MAX_COLUMN]
-}
-
-// The symbols of column a, by rows.
-pub fn column<'a>(
+// The n symbols that a coin reads, one by one, each from its own place.
+pub fn symbols<'a>(
     near: &'a [u16],
     far: &'a [u16],
     slot: usize,
     proof: &'a [u16],
     k: usize,
-    a: usize,
-) -> [u16; MAX_COLUMN]
-    requires { ⌜ InParts (now near) (now far) slot × (length (now near) ≡ 2 ^ (k - 3)) × (7 ≤ k) × (k ≤ maxDim) × (length (now proof) ≡ S k) × (a < 2 ^ (half k + 2)) ⌝ }
-    ensures { λ s. ⌜ (length s ≡ maxColumn) × (take (2 ^ colDim k) s ≡ column k (joined (now (near .entry)) (now (far .entry)) slot) (now (proof .entry)) a) ⌝ }
+    coin: u64,
+    n: usize,
+) -> [u16; 64]
+    requires { ⌜ Lent k (now near) (now far) slot (now proof) × (3 ≤ k) × (k ≤ maxDim) × (n ≡ readsOf k coin) ⌝ }
+    ensures { λ s. ⌜ (length s ≡ 64) × (take n s ≡ symbolsAt k (joined (now (near .entry)) (now (far .entry)) slot) (now (proof .entry)) coin) ⌝ }
 {
-    let rows = lines::rows(k);
-    let mut out = no_column();
-    let mut r = 0;
-    while r < rows {
-        out[r] = blocks::row_symbol(near, far, slot, proof, k, r, a);
-        r += 1;
+    let mut out = no_symbols();
+    let mut i = 0;
+    while i < n {
+        out[i] = blocks::read_symbol(near, far, slot, proof, k, coin, i);
+        i += 1;
     }
     out
 }

@@ -37,6 +37,10 @@ fn delivery_refusal(k: usize, word: usize, proof: usize, coin: u64) -> u8
 // verdict, with the number of symbols read. It writes nothing. Past check 4 the shift changes nothing:
 // rows and columns are those of the span.
 //
+// Word and proof are read at the coin's positions alone. Two functions read them: `gather::symbols`,
+// one symbol at each of the coin's places, and `gather::gather`, a word of at most 64 symbols, which
+// the coin reads whole. All others lend parts on.
+//
 // Ruled out: accept for a pair whose row or column at this coin is no codeword, as a checker would
 // say that waves columns through; 9 for a symbol that the coin does not read.
 pub fn check<'a>(

@@ -8,6 +8,7 @@ use proximity::Line;
 use proximity::lines;
 use proximity::spaces;
 use space::CELLS;
+use space::Space;
 ghost use mathlib.Core.Path.{_≡_};
 ghost use mathlib.Core.List.{List};
 ghost use Prim.Native.Nat.{ℕ, _-_, _/_, _^_, _≤_};
@@ -52,7 +53,9 @@ fn other_blocks(word: &[u16]) -> &[u16]
 }
 
 // The check of a word in two parts and its proof, by the bits left of a coin: the same is done with
-// the row or column that the coin takes. The dimension falls each time.
+// the row or column that the coin takes. The dimension falls each time. A row is lent on in two
+// parts, unread. A column is scattered over the rows: of it, and of its proof if it has one, the
+// symbols that the coin reads are fetched one by one, and they are the short word that is left.
 pub fn check_parts<'a>(
     f: Field,
     k: usize,
@@ -73,7 +76,6 @@ pub fn check_parts<'a>(
     let line = lines::line_of(k, coin);
     let m = lines::line_dimension(k, line);
     let t = spaces::line_images(images, k, line);
-    let inner = blocks::line_proof(proof, k, line);
     match line {
         Line::Row(r) => check_parts(
             f,
@@ -82,22 +84,26 @@ pub fn check_parts<'a>(
             blocks::row_near(near, far, slot, k, r),
             blocks::row_far(proof, k, r),
             lines::slot(r),
-            inner,
+            blocks::line_proof(proof, k, line),
             rest,
         ),
-        Line::Column(a) => {
-            let read = gather::column(near, far, slot, proof, k, a);
-            let n = lines::rows(k);
-            let whole = &read[..n];
+        Line::Column(_) => {
+            let s = spaces::leaf_space(Space { k: m, images: t }, rest);
+            let e = s.k;
+            let u = s.images;
+            let n = 1usize << e;
+            let read = gather::symbols(near, far, slot, proof, k, coin, n);
+            let short = &read[..n];
+            let none = &proof[..0];
             check_parts(
                 f,
-                m,
-                &t,
-                first_block(whole),
-                other_blocks(whole),
+                e,
+                &u,
+                first_block(short),
+                other_blocks(short),
                 0,
-                inner,
-                rest,
+                none,
+                0,
             )
         }
     }

@@ -10,6 +10,7 @@ use Rattle.lists.specs.Answers.{Passes}
 use Rattle.field.specs.Symbols.{symbols}
 use Rattle.proximity.specs.Dim.{S, R}
 use Rattle.proximity.specs.LineLaws.{R-small}
+use Rattle.proximity.specs.Tree.{maxBits}
 use Rattle.verifier.proofs.Laws.{one-shifted}
 use Rattle.verifier.specs.Checker.{readsOf, OnCoin}
 use Rattle.stored.specs.Bytes.{numbersAt}
@@ -85,7 +86,7 @@ module _ (c : tie.After-coin-bits Inv-loop μ-loop) where
   abbrev proof : List ℕ
   proof = take (decoded .before .proof-length .result) (c .before .proof-of .result)
 
-  small : c .coin-bits .result < 26
+  small : c .coin-bits .result ≤ maxBits
   small = omega (arith, c .coin-bits .ensures, R-small k (omega (arith, few start)))
 
   dimension : k ≡ dimIn (bytes start)
@@ -94,8 +95,8 @@ module _ (c : tie.After-coin-bits Inv-loop μ-loop) where
   all-coins : coins ≡ 2 ^ R (dimIn (bytes start))
   all-coins = one-shifted (c .coin-bits .result) (omega (arith, small)) ∙ ap (λ (n : ℕ). 2 ^ n) (c .coin-bits .ensures ∙ ap R dimension)
 
-  bounded : coins ≤ 2 ^ 26
-  bounded = omega (arith, one-shifted (c .coin-bits .result) (omega (arith, small)), pow-mono {i = c .coin-bits .result} {j = 26} (omega (arith, small)))
+  bounded : coins ≤ 2 ^ maxBits
+  bounded = omega (arith, one-shifted (c .coin-bits .result) (omega (arith, small)), pow-mono {i = c .coin-bits .result} {j = maxBits} (omega (arith, small)))
 
   word-is : word ≡ numbersAt (found start .narrow) (bytes start) (found start .word) (2 ^ k)
   word-is = word-front (bytes start) (found start) (start .pre .0) (start .pre .1) (decoded .word-of .result) (decoded .word-of .ensures .1)

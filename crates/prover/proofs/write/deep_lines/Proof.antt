@@ -1,7 +1,8 @@
 -- `prover::write::deep_lines` meets its contract. Assumes nothing.
 use mathlib.Core.Path.{sym, ap₂, subst}
-use Prim.Native.Nat.{_+_}
+use Prim.Native.Nat.{_+_, _^_, _≤_}
 use native.Mathlib.Omega.{arith}
+use Rattle.space.specs.Sizes.{maxDim}
 use Rattle.prover.specs.Prover.{Deep}
 use Rattle.prover.proofs.LineOrder.{deep-none, deep-rows, deep-all, few-lines}
 use borrow.Author.Needs.{needs}
@@ -32,16 +33,23 @@ rows-requires-2 c κs = search needs
 columns-requires : tie.Need-columns-requires
 columns-requires c κs = search needs
 
+-- the columns have a proof too
+module _ (c : tie.After-columns) where
+  abbrev start : tie.Start
+  start = c .before .before .before .before
+
+  few : c .before .rows2 .result + c .columns .result ≤ 2 ^ maxDim
+  few =
+      let bounds = few-lines (start .args .k) (start .pre .1) in
+      omega (arith, c .before .rows2 .ensures, c .columns .ensures, bounds .0, bounds .1)
+
 add-result : tie.Need-add-result
-add-result c = search needs
+add-result c = omega (arith, few c)
 
 returns-3 : tie.Need-returns-3
 returns-3 c =
-    let s = c .before .before .before .before in
-    let k = s .args .k in (
-      subst (Deep k) (sym (ap₂ _+_ (c .before .rows2 .ensures) (c .columns .ensures))) (deep-all k (omega arith) (omega arith)),
-      omega (arith, c .before .rows2 .ensures, c .columns .ensures, few-lines k (s .pre .1) .0, few-lines k (s .pre .1) .1),
-    )
+    let k = start c .args .k in
+    (subst (Deep k) (sym (ap₂ _+_ (c .before .rows2 .ensures) (c .columns .ensures))) (deep-all k (omega arith) (omega arith)), few c)
 
 pub deep-lines-spec : {M : Type 1} → statement M
 deep-lines-spec =

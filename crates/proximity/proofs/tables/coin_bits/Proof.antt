@@ -1,8 +1,6 @@
--- `proximity::tables::coin_bits` meets its contract: the table is the first part of the one that is tested whole. Assumes nothing.
-use mathlib.Core.Path.{_∙_}
+-- `proximity::tables::coin_bits` meets its contract: the table is the one that is tested whole. Assumes nothing.
 use Prim.Native.Nat.{_+_}
 use native.Mathlib.Omega.{arith}
-use lib.Seq.{getD-take}
 use Rattle.lists.specs.Tables.{table-at}
 use Rattle.space.specs.Sizes.{maxDim}
 use Rattle.proximity.specs.Dim.{R}
@@ -18,7 +16,7 @@ array-read-result : tie.Need-array-read-result
 array-read-result c = search needs
 
 returns : tie.Need-returns
-returns c = let k = c .args .k in getD-take (maxDim + 1) bits k 0 (omega arith) ∙ table-at R bits 15 (tables-right .1) k (omega arith)
+returns c = let k = c .args .k in table-at R bits (maxDim + 1) (tables-right .1) k (omega arith)
 
 pub coin-bits-spec : {M : Type 1} → statement M
 coin-bits-spec = tie.close (tie.spec mul-result array-read-result returns)

@@ -1,8 +1,6 @@
--- `proximity::tables::proof_length` meets its contract: the table is the first part of the one that is tested whole. Assumes nothing.
-use mathlib.Core.Path.{_∙_}
+-- `proximity::tables::proof_length` meets its contract: the table is the one that is tested whole. Assumes nothing.
 use Prim.Native.Nat.{_+_}
 use native.Mathlib.Omega.{arith}
-use lib.Seq.{getD-take}
 use Rattle.lists.specs.Tables.{table-at}
 use Rattle.space.specs.Sizes.{maxDim}
 use Rattle.proximity.specs.Dim.{S}
@@ -18,7 +16,7 @@ array-read-result : tie.Need-array-read-result
 array-read-result c = search needs
 
 returns : tie.Need-returns
-returns c = let k = c .args .k in getD-take (maxDim + 1) lengths k 0 (omega arith) ∙ table-at S lengths 15 (tables-right .0) k (omega arith)
+returns c = let k = c .args .k in table-at S lengths (maxDim + 1) (tables-right .0) k (omega arith)
 
 pub proof-length-spec : {M : Type 1} → statement M
 proof-length-spec = tie.close (tie.spec mul-result array-read-result returns)

@@ -1,19 +1,17 @@
 -- `stored::check::symbols` meets its contract. The loop's invariant: the first i symbols are written. Assumes nothing.
-use mathlib.Core.Path.{_≡_, sym, ap, _∙_, subst}
+use mathlib.Core.Path.{_≡_, ap, _∙_, subst}
 use mathlib.Core.Bool.{Bool}
-use mathlib.Core.List.{List, map}
+use mathlib.Core.List.{List}
 use Prim.Native.Nat.{ℕ, _^_, _-_, _≤_, _<_}
 use native.Mathlib.Omega.{arith}
 use lib.ListN.{length}
 use Rattle.lists.specs.Filled.{Filled, filled-none, filled-front, filled-take}
-use Rattle.lists.specs.Members.{map-tab}
 use Rattle.lists.specs.Tables.{tab}
 use Rattle.proximity.specs.ByLine.{placeAt}
 use Rattle.proximity.specs.Dim.{dim, S}
-use Rattle.proximity.specs.PlaceLaws.{positions-table}
 use Rattle.proximity.specs.Reads.{few-reads}
 use Rattle.proximity.specs.Verifier.{readAt}
-use Rattle.verifier.specs.Checker.{readsOf}
+use Rattle.verifier.specs.OnCoin.{symbols-table}
 use Rattle.stored.specs.Bytes.{numbersAt}
 use Rattle.stored.proofs.check.symbols.Statement.{statement}
 use Rattle.stored.proofs.check.symbols.Tie as tie
@@ -69,13 +67,11 @@ returns c =
     let h = c .before in
     let a = h .before .before .before .args in
     let f = entry (a .file .now) (a .narrow) (a .word) (a .proof) (a .k) (a .coin) in
-    let read = readAt (numbersAt (a .narrow) (a .file .now) (a .word) (2 ^ a .k)) (numbersAt (a .narrow) (a .file .now) (a .proof) (S (a .k))) in
     let last : h .loop .i ≡ a .n = omega arith in
     let filled : Filled 0 (a .n) f (h .before .no-symbols .result) (h .loop .out) = subst (λ (i : ℕ). Filled 0 i f (h .before .no-symbols .result) (h .loop .out)) last (h .loop .inv .1) in
     let room : a .n ≤ length (h .before .no-symbols .result) = omega (arith, h .before .no-symbols .ensures, h .before .before .before .pre .1, few-reads (dim (a .k)) (a .coin)) in (
       filled .kept ∙ h .before .no-symbols .ensures,
-      filled-take room filled ∙ ap (λ (n : ℕ). tab n f) (h .before .before .before .pre .1)
-          ∙ sym (ap (map read) (positions-table (a .k) (a .coin)) ∙ map-tab read (readsOf (a .k) (a .coin)) (placeAt (a .k) (a .coin))),
+      filled-take room filled ∙ ap (λ (n : ℕ). tab n f) (h .before .before .before .pre .1) ∙ symbols-table (a .k) _ _ (a .coin),
     )
 
 pub symbols-spec : {M : Type 1} → statement M

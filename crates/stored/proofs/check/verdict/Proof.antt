@@ -14,13 +14,14 @@ use Rattle.poly.specs.Codeword.{Basis, Codeword}
 use Rattle.space.specs.Images.{Images}
 use Rattle.transform.specs.Blocks.{InBlocks}
 use Rattle.proximity.specs.Dim.{dim, S}
+use Rattle.proximity.specs.LeafTable.{leaf-low}
 use Rattle.proximity.specs.Reads.{leafBasis, leaf-small, length-positions}
 use Rattle.proximity.specs.Verdict.{leaf-basis}
 use Rattle.proximity.specs.Verifier.{Accepts, positions}
 use Rattle.verifier.specs.Checker.{symbolsAt, readsOf}
 use Rattle.stored.specs.Bytes.{numbersAt}
 use Rattle.stored.specs.Packed.{length-numbers}
-use Rattle.stored.specs.Leaf.{leaf-low, symbols-below, decides-accepts}
+use Rattle.stored.specs.Leaf.{symbols-below, decides-accepts}
 use Rattle.stored.proofs.Laws.{word-count}
 use Rattle.stored.proofs.check.verdict.Statement.{statement}
 use Rattle.stored.proofs.check.verdict.Tie as tie

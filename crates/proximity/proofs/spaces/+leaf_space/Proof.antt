@@ -1,25 +1,25 @@
--- `stored::check::leaf_space` meets its contract. The measure is the dimension. Assumes nothing.
+-- `proximity::spaces::leaf_space` meets its contract. The measure is the dimension. Assumes nothing.
 use mathlib.Core.Path.{_≡_, ap, _∙_, subst, transport}
 use mathlib.Core.List.{List}
 use Prim.Native.Nat.{ℕ, _≤_, _<_}
 use native.Mathlib.Omega.{arith}
 use Rattle.proximity.specs.ByLine.{lineDim}
 use Rattle.proximity.specs.LineImages.{LineTable}
 use Rattle.proximity.specs.LineLaws.{line-falls}
 use Rattle.proximity.specs.Verifier.{lineOf}
 use Rattle.proximity.specs.declared.Line.{Line}
-use Rattle.stored.specs.Leaf.{LeafTable, leaf-here, leaf-line, length-line-table}
+use Rattle.proximity.specs.LeafTable.{LeafTable, leaf-here, leaf-line, length-line-table}
 use borrow.Fn.Kinds.{In}
 use borrow.Fn.PlainCycle.{Measures, is, falls, and}
-use Rattle.stored.proofs.check.leaf_space.Reads as leaf-space
-use Rattle.stored.proofs.check.leaf_space.Kinds as leaf-space-kinds
-use Rattle.stored.proofs.check.+leaf_space.Lts-leaf_space as leaf-space-lts
+use Rattle.proximity.proofs.spaces.leaf_space.Reads as leaf-space
+use Rattle.proximity.proofs.spaces.leaf_space.Kinds as leaf-space-kinds
+use Rattle.proximity.proofs.spaces.+leaf_space.Lts-leaf_space as leaf-space-lts
 use Rattle.proximity.proofs.lines.line_dimension.Reads as line-dimension-reads
 use Rattle.proximity.proofs.lines.line_of.Reads as line-of-reads
 use Rattle.proximity.proofs.lines.rest_of.Reads as rest-of-reads
 use Rattle.proximity.proofs.spaces.line_images.Reads as line-images-reads
-use Rattle.stored.proofs.check.+leaf_space.{statement}
-use Rattle.stored.proofs.check.+leaf_space.Tie.{close}
+use Rattle.proximity.proofs.spaces.+leaf_space.{statement}
+use Rattle.proximity.proofs.spaces.+leaf_space.Tie.{close}
 
 abbrev μ : Measures 0 leaf-space-kinds.ps ℕ
 μ κs a = a .0 .k
