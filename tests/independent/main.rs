@@ -2,6 +2,7 @@
 mod arithmetic;
 mod calls;
 mod codec;
+mod columns;
 mod convert;
 mod correction;
 mod counter;
@@ -104,6 +105,7 @@ pub fn basis(d: &mut Draw, l: u32, k: usize) -> Vec<u16> {
 }
 
 /// A modulus of degree l, a basis and a shift.
+#[derive(Clone)]
 pub struct Setting {
     pub l: u32,
     pub m: u32,
@@ -164,6 +166,7 @@ fn main() {
         largest::all(&mut t, shifts);
     }
     lazy::all(&mut t);
+    columns::all(&mut t);
     limits::all(&mut t);
     shifts::all(&mut t);
     for form in [Form::One, Form::Two] {
