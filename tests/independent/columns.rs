@@ -62,9 +62,13 @@ fn walks(t: &mut Tally, name: &str, d: &mut Draw, x: &mut Pair, lazy: &mut Lazy)
             }
             x.swap(at, kept);
 
-            read.iter().for_each(|p| drop(bare.swap(*p, x.at(*p))));
+            for place in &read {
+                bare.swap(*place, x.at(*place));
+            }
             wrong += u64::from(!right(&bare, accept));
-            read.iter().for_each(|p| drop(bare.swap(*p, 65535)));
+            for place in &read {
+                bare.swap(*place, 65535);
+            }
         }
         t.answers(&format!("coins that take {walk} {name}"), wrong, &met, if l < 16 { &[0, 9, 100] } else { &[0, 100] });
     }

@@ -101,18 +101,19 @@ pub fn stored(t: &mut Tally, name: &str, form: Form, y: &Delivery) {
     let written = match form {
         Form::One => calls::write(x.s.m, &x.s.b, &x.w, &x.proof, &mut out),
         Form::Two => calls::write_form_two(x.s.m, &x.s.b, x.s.shift, &x.w, &x.proof, &mut out),
-    };
+    } == 0 && out == f;
+    out.fill(9);
     let number = calls::convert(&f, &mut other);
     let moved = match converted {
         Err(n) => number == n && other.iter().all(|b| *b == 9),
-        Ok(right) => number == 0 && other == right && calls::convert(&other, &mut out) == 0,
+        Ok(right) => number == 0 && other == right && calls::convert(&other, &mut out) == 0 && out == f,
     };
     let right = [
-        written == 0 && out == f,
+        written,
         calls::places(&f) == read,
         calls::prefix_places(&f) == calls::places(&f),
         calls::coin_bits(&f) == model::coin_bits(y.k),
-        moved && out == f,
+        moved,
         number == if x.s.shift == 0 { 0 } else { 14 },
     ];
     t.group(&format!("file {name}"), right.iter().filter(|x| !**x).count() as u64, 6);
