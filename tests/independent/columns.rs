@@ -38,11 +38,12 @@ fn proved(t: &mut Tally, name: &str, d: &mut Draw, s: &Setting, w: &[u16], lazy:
     proof
 }
 
-/// The checker at coins of each walk. All that a coin reads is the model's; a symbol that it reads is changed, and is out of range where
-/// there are such numbers; and all that it does not read is.
+/// The checker at coins of each walk. All that a coin reads is the model's. Then a symbol that it reads is changed, and is out of range where
+/// there are such numbers; and at last all that it does not read is.
 fn walks(t: &mut Tally, name: &str, d: &mut Draw, x: &mut Pair, lazy: &mut Lazy) {
     let (k, l) = (x.s.b.len(), x.s.l);
-    let mut bare = Pair { s: x.s.clone(), w: vec![65535; 1 << k], proof: vec![65535; x.proof.len()] };
+    let mut high = |n: usize| d.list(n, 32768).into_iter().map(|x| x | 32768).collect();
+    let mut bare = Pair { s: x.s.clone(), w: high(x.w.len()), proof: high(x.proof.len()) };
     for (walk, begins, lengths) in WALKS {
         let (mut wrong, mut met) = (0, Met::default());
         for _ in 0..40 {
@@ -62,12 +63,10 @@ fn walks(t: &mut Tally, name: &str, d: &mut Draw, x: &mut Pair, lazy: &mut Lazy)
             }
             x.swap(at, kept);
 
-            for place in &read {
-                bare.swap(*place, x.at(*place));
-            }
+            let kept: Vec<u16> = read.iter().map(|p| bare.swap(*p, x.at(*p))).collect();
             wrong += u64::from(!right(&bare, accept));
-            for place in &read {
-                bare.swap(*place, 65535);
+            for (place, symbol) in read.into_iter().zip(kept) {
+                bare.swap(place, symbol);
             }
         }
         t.answers(&format!("coins that take {walk} {name}"), wrong, &met, if l < 16 { &[0, 9, 100] } else { &[0, 100] });
