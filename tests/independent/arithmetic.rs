@@ -40,7 +40,3 @@ pub fn inverse(m: u32, a: u16) -> u16 {
     }
     r
 }
-
-pub fn power(m: u32, a: u16, e: usize) -> u16 {
-    (0..usize::BITS).rev().fold(1, |r, i| mul(m, mul(m, r, r), if e >> i & 1 == 1 { a } else { 1 }))
-}

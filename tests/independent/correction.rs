@@ -97,12 +97,16 @@ pub fn too_high(d: &mut Draw, s: &Setting) -> Vec<u16> {
     model::word_of(s.m, &s.b, s.shift, &p)
 }
 
+fn power(m: u32, x: u16, e: usize) -> u16 {
+    (0..usize::BITS).rev().fold(1, |r, i| model::mul(m, model::mul(m, r, r), if e >> i & 1 == 1 { x } else { 1 }))
+}
+
 /// The codeword and a multiple of one power of x, of a degree that is too high likewise.
 fn lifted(d: &mut Draw, s: &Setting, c: &[u16]) -> Vec<u16> {
     let n = c.len();
     let degree = n / 8 + d.below((n - radius(n) - n / 8) as u64) as usize;
     let factor = 1 + d.below((1 << s.l) - 1) as u16;
-    let added = |x: u16| model::mul(s.m, factor, model::power(s.m, x, degree));
+    let added = |x: u16| model::mul(s.m, factor, power(s.m, x, degree));
     c.iter().zip(model::points(&s.b, s.shift, n)).map(|(y, x)| y ^ added(x)).collect()
 }
 

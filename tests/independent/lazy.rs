@@ -98,7 +98,9 @@ pub fn all(t: &mut Tally) {
         let p = d.list(1 << (k - 3), 1 << s.l);
         let (w, proof) = (model::word_of(s.m, &s.b, 0, &p), model::proof_of(s.m, &s.b, &p));
         let mut lazy = Lazy::new(s.m, &s.b, &p);
-        let mut some = |n: usize| -> Vec<usize> { if k <= 8 { (0..n).collect() } else { (0..20000).map(|_| d.below(n as u64) as usize).collect() } };
+        let mut some = |n: usize| -> Vec<usize> {
+            if k <= 8 { (0..n).collect() } else { (0..20000).map(|_| d.below(n as u64) as usize).collect() }
+        };
         let (in_word, mut in_proof) = (some(w.len()), some(proof.len()));
         in_proof.extend(ends(k, 2));
         let wrong = in_word.iter().filter(|i| lazy.symbol(Place::Word(**i)) != w[**i]).count()

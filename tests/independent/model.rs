@@ -1,6 +1,6 @@
 //! Field, word, proof and verdict, written from documents 000, 01 and 02: slow and direct, without tables.
 
-pub use crate::arithmetic::{degree, inverse, irreducible, mul, power};
+pub use crate::arithmetic::{degree, inverse, irreducible, mul};
 
 pub const LARGEST: usize = 14;
 
