@@ -83,32 +83,36 @@ fn last_coins(t: &mut Tally, name: &str, x: &Pair) {
     t.answers(&format!("the last coins {name}"), wrong, &met, &[0, 8]);
 }
 
-/// Lists that are one symbol too short or too long: 6, and nothing is changed.
+/// Lists that are one symbol too short or too long, and scratch that is one too short: 6 or 7, and nothing is changed.
 fn lengths(t: &mut Tally, name: &str, d: &mut Draw, y: &Delivery) {
     let Pair { s, w, proof } = &y.x;
     let (mut wrong, mut met) = (0, Met::default());
-    let mut seen = |good: bool| {
+    let mut seen = |number: u32, good: bool| {
         wrong += u64::from(!good);
-        met.add(6);
+        met.add(number);
     };
     let longer = |xs: &[u16]| [xs, &[0]].concat();
     let calls: [(Call, &[u16], &[u16]); 3] = [(calls::encode, &y.p, w), (calls::decode, w, &y.p), (calls::prove, w, proof)];
     for (call, given, right) in calls {
         for given in [&given[1..], &longer(given)] {
-            seen(gives(d, y, call, given, 6, right));
+            seen(6, gives(d, y, call, given, 6, right));
         }
-        seen(gives(d, y, call, given, 6, &right[1..]));
-        seen(gives(d, y, call, given, 6, &longer(right)));
+        seen(6, gives(d, y, call, given, 6, &right[1..]));
+        seen(6, gives(d, y, call, given, 6, &longer(right)));
+        let (old, few) = (d.list(right.len(), 65536), d.list((4 << y.k) - 1, 65536));
+        let (mut out, mut scratch) = (old.clone(), few.clone());
+        seen(7, call(s.m, &s.b, s.shift, given, &mut out, &mut scratch) == 7 && (out, scratch) == (old, few));
     }
     let scratch = d.list(16 << y.k, 65536);
     let (short, long) = (&w[1..], longer(w));
     for (word, out) in [(short, &w[..]), (&long, w), (w, short), (w, &long)] {
-        seen(same(s, word, 6, vec![], out, &scratch));
+        seen(6, same(s, word, 6, vec![], out, &scratch));
     }
+    seen(7, same(s, w, 7, vec![], &d.list(w.len(), 65536), &scratch[1..]));
     let refused = |w: &[u16], proof: &[u16]| calls::check(s.m, &s.b, s.shift, w, proof, 0) == 131072 + 6;
-    [short, &long].into_iter().for_each(|w| seen(refused(w, proof)));
-    [&proof[1..], &longer(proof)].into_iter().for_each(|proof| seen(refused(w, proof)));
-    t.answers(&format!("lengths {name}"), wrong, &met, &[6]);
+    [short, &long].into_iter().for_each(|w| seen(6, refused(w, proof)));
+    [&proof[1..], &longer(proof)].into_iter().for_each(|proof| seen(6, refused(w, proof)));
+    t.answers(&format!("lengths {name}"), wrong, &met, &[6, 7]);
 }
 
 fn dimension(t: &mut Tally, d: &mut Draw, shifts: Shifts, l: u32, k: usize) {

@@ -88,7 +88,19 @@ fn heads(t: &mut Tally, form: Form) {
     t.answers(&form.name("heads of 13 to 16 elements at each degree"), wrong, &met, &[3, 4, 5, 11, 12]);
 }
 
+/// The lengths of proofs and the coin bits that the papers print: the model's follow from the rule.
+const PRINTED: [(usize, usize, u32); 9] = [
+    (6, 0, 0), (7, 896, 6), (8, 16128, 11), (9, 32256, 12), (10, 523264, 17), (11, 1046528, 18), (12, 2093056, 19), (13, 4415488, 20),
+    (14, 67551232, 25),
+];
+
+fn tables(t: &mut Tally) {
+    let wrong = PRINTED.iter().filter(|(k, s, r)| (model::proof_length(*k), model::coin_bits(*k)) != (*s, *r)).count();
+    t.group("lengths of proofs and coin bits", wrong as u64, PRINTED.len() as u64);
+}
+
 pub fn all(t: &mut Tally) {
+    tables(t);
     bases(t);
     FORMS.into_iter().for_each(|form| heads(t, form));
 }
