@@ -12,6 +12,23 @@ verdict() {
   fi
 }
 
+# program NAME COMMAND..: runs a program of tests, which closes with 'N passed, M failed', and adds that up. What else it prints is shown; a
+# status that no failed test explains counts as a failure.
+program() {
+  local status=0 text line bad
+  text=$("${@:2}") || status=$?
+  line=$(grep -E '^[0-9]+ passed, [0-9]+ failed$' <<<"$text") || line='0 passed, 1 failed'
+  grep -vxF "$line" <<<"$text" || true
+  bad=${line#*, }
+  bad=${bad%% *}
+  if [ "$status" -ne 0 ] && [ "$bad" -eq 0 ]; then
+    echo "the test $1 ends with status $status"
+    bad=1
+  fi
+  passed=$((passed + ${line%% *}))
+  failed=$((failed + bad))
+}
+
 # closing: the last line, and the status
 closing() {
   echo "$passed passed, $failed failed"

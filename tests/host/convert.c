@@ -129,7 +129,8 @@ static void refusals(void)
 {
     in_form_one("modulus 7", 2, 7, PROXIMITY_REFUSED_MODULUS_RANGE);
     in_form_one("modulus 15", 2, 15, PROXIMITY_REFUSED_MODULUS_REDUCIBLE);
-    in_form_one("k = 13", 6, 13, PROXIMITY_REFUSED_BASIS_SIZE);
+    in_form_one("k = 15", 6, 15, PROXIMITY_REFUSED_BASIS_SIZE);
+    in_form_one("k = 13", 6, 13, PROXIMITY_REFUSED_BASIS_RANGE);
     in_form_one("basis element 8", 11, 8, PROXIMITY_REFUSED_BASIS_RANGE);
     in_form_one("basis 1, 2, 3", 11, 3, PROXIMITY_REFUSED_BASIS_DEPENDENT);
     in_form_one("symbol 8", 19, 8, PROXIMITY_REFUSED_SYMBOL);
@@ -140,6 +141,8 @@ static void refusals(void)
     in_form_two("modulus 7 in form 2", 2, 7, PROXIMITY_REFUSED_MODULUS_RANGE);
     in_form_two("modulus 15 in form 2", 2, 15, PROXIMITY_REFUSED_MODULUS_REDUCIBLE);
     in_form_two("k = 2 in form 2", 6, 2, PROXIMITY_REFUSED_BASIS_SIZE);
+    in_form_two("k = 15 in form 2", 6, 15, PROXIMITY_REFUSED_BASIS_SIZE);
+    in_form_two("k = 14 in form 2", 6, 14, PROXIMITY_REFUSED_CUT);
     in_form_two("basis element 8 in form 2", 11, 8, PROXIMITY_REFUSED_BASIS_RANGE);
     in_form_two("shift 8", 13, 8, PROXIMITY_REFUSED_BASIS_RANGE);
     in_form_two("shift 256", 14, 1, PROXIMITY_REFUSED_BASIS_RANGE);
@@ -240,5 +243,6 @@ int main(void)
     zeros(283, 8, 16128);
     zeros(65581, 8, 16128);
     zeros(4105, 12, 2093056);
+    zeros(8219, 13, 4415488);
     return closing();
 }

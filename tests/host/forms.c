@@ -55,7 +55,10 @@ static void refused_settings(void)
     changed("modulus 7", 2, 7, PROXIMITY_REFUSED_MODULUS_RANGE);
     changed("modulus 15", 2, 15, PROXIMITY_REFUSED_MODULUS_REDUCIBLE);
     changed("k = 2", 6, 2, PROXIMITY_REFUSED_BASIS_SIZE);
-    changed("k = 13", 6, 13, PROXIMITY_REFUSED_BASIS_SIZE);
+    changed("k = 15", 6, 15, PROXIMITY_REFUSED_BASIS_SIZE);
+    /* what follows is read as basis elements and the shift */
+    changed("k = 13", 6, 13, PROXIMITY_REFUSED_BASIS_RANGE);
+    changed("k = 14", 6, 14, PROXIMITY_REFUSED_CUT);
     changed("basis element 8", 11, 8, PROXIMITY_REFUSED_BASIS_RANGE);
     changed("basis 1, 2, 3", 11, 3, PROXIMITY_REFUSED_BASIS_DEPENDENT);
     changed("shift 8", 13, 8, PROXIMITY_REFUSED_BASIS_RANGE);
@@ -88,7 +91,9 @@ static void refused_lengths(void)
 {
     only_whole(sample, sizeof sample);
     cut_and_changed("modulus 7 without a basis", 7, 2, 7, PROXIMITY_REFUSED_MODULUS_RANGE);
-    cut_and_changed("k = 13 without a basis", 7, 6, 13, PROXIMITY_REFUSED_BASIS_SIZE);
+    cut_and_changed("k = 15 without a basis", 7, 6, 15, PROXIMITY_REFUSED_BASIS_SIZE);
+    cut_and_changed("k = 13 without a basis", 7, 6, 13, PROXIMITY_REFUSED_CUT);
+    cut_and_changed("k = 13 with half a shift", 34, 6, 13, PROXIMITY_REFUSED_CUT);
     cut_and_changed("basis element 8 without a shift", 13, 11, 8, PROXIMITY_REFUSED_CUT);
     cut_and_changed("basis element 8 with half a shift", 14, 11, 8, PROXIMITY_REFUSED_CUT);
     cut_and_changed("basis element 8 with a shift", 15, 11, 8, PROXIMITY_REFUSED_BASIS_RANGE);

@@ -51,7 +51,10 @@ static void refused_settings(void)
     changed("modulus 21", 2, 21, PROXIMITY_REFUSED_MODULUS_REDUCIBLE);
     changed("no basis", 6, 0, PROXIMITY_REFUSED_BASIS_SIZE);
     changed("k = 2", 6, 2, PROXIMITY_REFUSED_BASIS_SIZE);
-    changed("k = 13", 6, 13, PROXIMITY_REFUSED_BASIS_SIZE);
+    changed("k = 15", 6, 15, PROXIMITY_REFUSED_BASIS_SIZE);
+    /* what follows is read as basis elements */
+    changed("k = 13", 6, 13, PROXIMITY_REFUSED_BASIS_RANGE);
+    changed("k = 14", 6, 14, PROXIMITY_REFUSED_BASIS_RANGE);
     changed("basis element 8", 11, 8, PROXIMITY_REFUSED_BASIS_RANGE);
     changed("basis element 260", 12, 1, PROXIMITY_REFUSED_BASIS_RANGE);
     changed("basis 1, 2, 3", 11, 3, PROXIMITY_REFUSED_BASIS_DEPENDENT);
@@ -86,7 +89,11 @@ static void refused_lengths(void)
     cut_and_changed("modulus 7 cut in the head", 6, 2, 7, PROXIMITY_REFUSED_CUT);
     cut_and_changed("modulus 7 without a basis", 7, 2, 7, PROXIMITY_REFUSED_MODULUS_RANGE);
     cut_and_changed("modulus 15 without a basis", 7, 2, 15, PROXIMITY_REFUSED_MODULUS_REDUCIBLE);
-    cut_and_changed("k = 13 without a basis", 7, 6, 13, PROXIMITY_REFUSED_BASIS_SIZE);
+    cut_and_changed("k = 15 without a basis", 7, 6, 15, PROXIMITY_REFUSED_BASIS_SIZE);
+    cut_and_changed("k = 13 without a basis", 7, 6, 13, PROXIMITY_REFUSED_CUT);
+    cut_and_changed("k = 13 with 12 elements and a half", 32, 6, 13, PROXIMITY_REFUSED_CUT);
+    cut_and_changed("k = 13 with 13 elements", 33, 6, 13, PROXIMITY_REFUSED_BASIS_RANGE);
+    cut_and_changed("k = 14 with 13 elements and a half", 34, 6, 14, PROXIMITY_REFUSED_CUT);
     cut_and_changed("basis element 8 without a word", 13, 11, 8, PROXIMITY_REFUSED_BASIS_RANGE);
     cut_and_changed("7 symbols, and none there", 19, 15, 7, PROXIMITY_REFUSED_COUNT);
     cut_and_changed("symbol 8 in a word that is cut", 34, 19, 8, PROXIMITY_REFUSED_CUT);
@@ -182,18 +189,20 @@ static void last_symbol(int form, uint32_t modulus, uint32_t limit)
     free(z.file);
 }
 
-/* The proof lengths and coin bits by dimension. The last coin takes a column, coin 0 rows down to one of 64 symbols. */
+/* The proof lengths and coin bits by dimension, the largest in form 1 alone, for the time. The last coin takes a column, and from
+ * 13 on a column in it; coin 0 takes rows down to one of 64 symbols. */
 static void dimensions(int form)
 {
     static const struct {
-        uint32_t k, size, bits, column;
+        uint32_t modulus, k, size, bits, column;
     } table[] = {
-        {7, 896, 6, 16}, {8, 16128, 11, 16}, {9, 32256, 12, 32}, {10, 523264, 17, 32}, {11, 1046528, 18, 64}, {12, 2093056, 19, 64},
+        {4105, 7, 896, 6, 16}, {4105, 8, 16128, 11, 16}, {4105, 9, 32256, 12, 32}, {4105, 10, 523264, 17, 32},
+        {4105, 11, 1046528, 18, 64}, {4105, 12, 2093056, 19, 64}, {8219, 13, 4415488, 20, 16}, {16427, 14, 67551232, 25, 16},
     };
-    size_t i;
+    size_t count = sizeof table / sizeof *table - (form == 2), i;
 
-    for (i = 0; i < sizeof table / sizeof *table; i++) {
-        struct zeros z = zeros_of(form, 4105, table[i].k, table[i].size);
+    for (i = 0; i < count; i++) {
+        struct zeros z = zeros_of(form, table[i].modulus, table[i].k, table[i].size);
 
         expect("dimension", proximity_file_refusal(z.file, z.length), 0);
         expect("coin bits", proximity_coin_bits(z.file, z.length), table[i].bits);

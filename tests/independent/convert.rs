@@ -2,6 +2,7 @@
 use crate::file::{self, Form};
 use crate::files::{bytes, cuts, damaged_file, Delivery};
 use crate::forms::{delivery_at, sizes, FORMS};
+use crate::model::LARGEST;
 use crate::{calls, Draw, Met, Setting, Tally};
 
 /// Whether both calls answer as the model, with an output of so many bytes, which starts as noise and is compared whole. The converter's
@@ -91,7 +92,7 @@ fn faulty(f: &[u8], form: Form, l: u32, k: usize) -> Vec<(Vec<u8>, u32)> {
         if l < 16 {
             all.push((with(f, 8 + 2 * k, 128), 4));
         }
-        all.extend([(with(&moved, 4, 2), 1), (with(&moved, 6, 13), 3), (longer(&moved), 12), (cut(&moved), 11), (moved, 14)]);
+        all.extend([(with(&moved, 4, 2), 1), (with(&moved, 6, LARGEST as u8 + 1), 3), (longer(&moved), 12), (cut(&moved), 11), (moved, 14)]);
     }
     all
 }

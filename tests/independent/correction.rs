@@ -5,7 +5,7 @@ use crate::nearest::{by_trial, differences, nearest, radius};
 use crate::{calls, model, outside, setting_of, Draw, Met, Setting, Shifts, Tally};
 
 /// Whether the call answers this number, with 0 this codeword, and leaves output and scratch as it must.
-fn same(s: &Setting, w: &[u16], number: u32, near: Vec<u16>, old: &[u16], scratch: &[u16]) -> bool {
+pub fn same(s: &Setting, w: &[u16], number: u32, near: Vec<u16>, old: &[u16], scratch: &[u16]) -> bool {
     let answer = if number == 0 { differences(w, &near) as u64 } else { 65536 + number as u64 };
     let (mut out, mut work) = (old.to_vec(), scratch.to_vec());
     let got = calls::correct(s.m, &s.b, s.shift, w, &mut out, &mut work);
@@ -95,6 +95,19 @@ pub fn too_high(d: &mut Draw, s: &Setting) -> Vec<u16> {
     let mut p = d.list(degree, 1 << s.l);
     p.push(1 + d.below((1 << s.l) - 1) as u16);
     model::word_of(s.m, &s.b, s.shift, &p)
+}
+
+fn power(m: u32, x: u16, e: usize) -> u16 {
+    (0..usize::BITS).rev().fold(1, |r, i| model::mul(m, model::mul(m, r, r), if e >> i & 1 == 1 { x } else { 1 }))
+}
+
+/// The codeword and a multiple of one power of x, of a degree that is too high likewise.
+fn lifted(d: &mut Draw, s: &Setting, c: &[u16]) -> Vec<u16> {
+    let n = c.len();
+    let degree = n / 8 + d.below((n - radius(n) - n / 8) as u64) as usize;
+    let factor = 1 + d.below((1 << s.l) - 1) as u16;
+    let added = |x: u16| model::mul(s.m, factor, power(s.m, x, degree));
+    c.iter().zip(model::points(&s.b, s.shift, n)).map(|(y, x)| y ^ added(x)).collect()
 }
 
 /// Words at the border, whose answers are known without a search.
@@ -233,12 +246,16 @@ fn again(t: &mut Tally, shifts: Shifts) {
     t.answers(&shifts.name("corrected words again"), wrong, &met, &[0]);
 }
 
-/// The larger dimensions: the least and the largest field, no damage, a little, the radius, and words without a near codeword.
+/// The larger dimensions: the least and the largest field, no damage, a little, the radius, and words without a near codeword. At 14 one of
+/// the two fields is enough for the time.
 fn largest(t: &mut Tally, shifts: Shifts) {
     let mut d = Draw(0x629a292a367cd507);
-    for k in 9..=12 {
+    for k in 9..=14 {
         let (mut wrong, mut met) = (0, Met::default());
         for l in [k as u32, 16] {
+            if k == 14 && (l == 16) == (shifts == Shifts::Zero) {
+                continue;
+            }
             let s = setting_of(&mut d, l, k);
             let s = shifts.put(&mut d, s);
             let c = codeword(&mut d, &s);
@@ -246,7 +263,7 @@ fn largest(t: &mut Tally, shifts: Shifts) {
                 let w = damaged(&mut d, &s, &c, count);
                 wrong += u64::from(!finds(&mut d, &s, &w, Some(c.clone()), &mut met));
             }
-            let w = too_high(&mut d, &s);
+            let w = if k < 13 { too_high(&mut d, &s) } else { lifted(&mut d, &s, &c) };
             wrong += u64::from(!finds(&mut d, &s, &w, None, &mut met));
         }
         t.answers(&shifts.name(&format!("correction at k = {k}")), wrong, &met, &[0, 13]);

@@ -31,9 +31,15 @@ pub fn any_form(d: &mut Draw) -> Form {
     [Form::One, Form::Two][d.below(2) as usize]
 }
 
+/// The setting of a file of dimension k, with two empty records behind it.
+pub fn head(d: &mut Draw, form: Form, k: usize) -> Vec<u8> {
+    let s = shifts_of(form).setting(d, k);
+    file::bytes_of(form, s.m, &s.b, s.shift, &[], &[])
+}
+
 /// A setting of dimension 9 or more, right or not, whole or not, with two empty records or nothing behind it.
 pub fn large(d: &mut Draw, form: Form) -> Vec<u8> {
-    let k = 9 + d.below(4) as usize;
+    let k = 9 + d.below(6) as usize;
     let mut s = shifts_of(form).setting(d, k);
     if d.below(3) == 0 {
         shifts_of(form).spoil(d, &mut s);

@@ -77,17 +77,19 @@ fn setting_record(form: Form, m: u32, basis: &[u16], shift: u16) -> Vec<u8> {
     out
 }
 
-fn record(mark: [u8; 2], xs: &[u16], width: usize) -> Vec<u8> {
-    let mut out = mark.to_vec();
+/// Puts a record behind the bytes.
+fn record(mut out: Vec<u8>, mark: [u8; 2], xs: &[u16], width: usize) -> Vec<u8> {
+    out.reserve_exact(6 + width * xs.len());
+    out.extend(mark);
     out.extend((xs.len() as u32).to_le_bytes());
-    out.extend(packed(xs, width));
+    xs.iter().for_each(|x| out.extend(&x.to_le_bytes()[..width]));
     out
 }
 
 /// The bytes of a setting, a word and a proof. Form 1 does not write the shift.
 pub fn bytes_of(form: Form, m: u32, basis: &[u16], shift: u16, word: &[u16], proof: &[u16]) -> Vec<u8> {
     let ([_, first, second], width) = (form.marks(), form.width(m));
-    [setting_record(form, m, basis, shift), record(first, word, width), record(second, proof, width)].concat()
+    record(record(setting_record(form, m, basis, shift), first, word, width), second, proof, width)
 }
 
 /// The mark of the coefficients, which have two bytes each in both forms.
@@ -95,7 +97,7 @@ const COEFFICIENTS: [u8; 2] = [0x43, 0x4f];
 
 /// The bytes of a setting and coefficients: what the writer's program takes.
 pub fn message_of(form: Form, m: u32, basis: &[u16], shift: u16, p: &[u16]) -> Vec<u8> {
-    [setting_record(form, m, basis, shift), record(COEFFICIENTS, p, 2)].concat()
+    record(setting_record(form, m, basis, shift), COEFFICIENTS, p, 2)
 }
 
 /// Takes n bytes from the front, or gives 11.

@@ -141,7 +141,7 @@ fn faulty(s: &Setting, form: Form) -> Vec<(Vec<u16>, u16, u32)> {
 }
 
 /// The numbers that all calls on files, and the maker of files, give.
-fn numbers(f: &[u8]) -> [u64; 8] {
+pub fn numbers(f: &[u8]) -> [u64; 8] {
     let make = calls::make(f, &mut []).wrapping_sub(65536);
     let [a, b, c, d] = [calls::file_refusal(f), calls::converted_length(f).0, calls::convert(f, &mut []), make].map(u64::from);
     [calls::place(f, 0), calls::prefix_place(f, 0), calls::total(f, 0), calls::entry(f)[0], a, b, c, d]

@@ -7,10 +7,10 @@ use crate::shifts::proof_at;
 use crate::symbols::Pair;
 use crate::{calls, file, model, Draw, Met, Shifts, Tally};
 
-struct Delivery {
-    k: usize,
-    p: Vec<u16>,
-    x: Pair,
+pub struct Delivery {
+    pub k: usize,
+    pub p: Vec<u16>,
+    pub x: Pair,
 }
 
 fn delivery(d: &mut Draw, shifts: Shifts, k: usize) -> Delivery {
@@ -20,45 +20,50 @@ fn delivery(d: &mut Draw, shifts: Shifts, k: usize) -> Delivery {
     Delivery { k, p, x: Pair { s, w, proof } }
 }
 
-type Call = fn(u32, &[u16], u16, &[u16], &mut [u16], &mut [u16]) -> u32;
+pub type Call = fn(u32, &[u16], u16, &[u16], &mut [u16], &mut [u16]) -> u32;
 
 /// Whether a call gives this number, and leaves its output and its scratch, which start as noise, as it must.
-fn gives(d: &mut Draw, y: &Delivery, call: Call, given: &[u16], number: u32, right: &[u16]) -> bool {
+pub fn gives(d: &mut Draw, y: &Delivery, call: Call, given: &[u16], number: u32, right: &[u16]) -> bool {
     let (old, scratch) = (d.list(right.len(), 65536), d.list((4 << y.k) + 5, 65536));
     let (mut out, mut s) = (old.clone(), scratch.clone());
     let got = call(y.x.s.m, &y.x.s.b, y.x.s.shift, given, &mut out, &mut s);
-    got == number && (out, s) == left(number, right.to_vec(), &old, &scratch)
+    got == number && (out, s) == left(number, if number == 0 { right.to_vec() } else { vec![] }, &old, &scratch)
 }
 
-/// Encoder, decoder and prover on the delivery, and the last two on a word with one symbol changed.
-fn whole(t: &mut Tally, shifts: Shifts, d: &mut Draw, y: &Delivery) {
+/// Encoder, decoder and prover on the delivery, and the last two on a word with one symbol changed, which is no codeword: above dimension 13
+/// the model would take seconds to see it.
+pub fn whole(t: &mut Tally, name: &str, d: &mut Draw, y: &Delivery) {
     let Delivery { k, p, x } = y;
     let mut off = x.w.clone();
     off[d.below(1 << k) as usize] ^= 1 + d.below((1 << x.s.l) - 1) as u16;
-    let number = if model::is_codeword(x.s.m, &x.s.b, x.s.shift, &off) { 0 } else { 10 };
     let right = [
         gives(d, y, calls::encode, p, 0, &x.w),
         gives(d, y, calls::decode, &x.w, 0, p),
         gives(d, y, calls::prove, &x.w, 0, &x.proof),
-        gives(d, y, calls::decode, &off, number, p),
-        gives(d, y, calls::prove, &off, number, &x.proof),
-        number == 10,
+        gives(d, y, calls::decode, &off, 10, p),
+        gives(d, y, calls::prove, &off, 10, &x.proof),
+        *k > 13 || !model::is_codeword(x.s.m, &x.s.b, x.s.shift, &off),
     ];
-    t.group(&shifts.name(&format!("word, decoding and proof at k = {k}")), right.iter().filter(|x| !**x).count() as u64, 6);
+    t.group(&format!("word, decoding and proof {name}"), right.iter().filter(|x| !**x).count() as u64, 6);
 }
 
-/// A coin in range, and a place that it reads.
-fn coin(d: &mut Draw, k: usize) -> (u64, model::Place) {
-    let coin = d.below(1 << model::coin_bits(k));
+/// A coin in range.
+fn coin(d: &mut Draw, k: usize) -> u64 {
+    d.below(1 << model::coin_bits(k))
+}
+
+/// A place that the coin reads.
+pub fn read_place(d: &mut Draw, k: usize, coin: u64) -> model::Place {
     let read = model::positions(k, coin);
-    (coin, read[d.below(read.len() as u64) as usize])
+    read[d.below(read.len() as u64) as usize]
 }
 
 /// The checker on symbols; in every second turn a symbol that the coin reads is changed.
-fn symbols(t: &mut Tally, shifts: Shifts, d: &mut Draw, y: &mut Delivery) {
+fn symbols(t: &mut Tally, name: &str, d: &mut Draw, y: &mut Delivery) {
     let (mut wrong, mut met) = (0, Met::default());
     for turn in 0..200 {
-        let (coin, at) = coin(d, y.k);
+        let coin = coin(d, y.k);
+        let at = read_place(d, y.k, coin);
         let kept = y.x.swap(at, d.below(1 << y.x.s.l) as u16);
         if turn % 2 == 0 {
             y.x.swap(at, kept);
@@ -66,7 +71,7 @@ fn symbols(t: &mut Tally, shifts: Shifts, d: &mut Draw, y: &mut Delivery) {
         wrong += u64::from(!y.x.same(coin, &mut met));
         y.x.swap(at, kept);
     }
-    t.answers(&shifts.name(&format!("coins at k = {}", y.k)), wrong, &met, &[0, 100]);
+    t.answers(&format!("coins {name}"), wrong, &met, &[0, 100]);
 }
 
 fn form_of(shifts: Shifts) -> Form {
@@ -88,37 +93,39 @@ fn bytes_at(form: Form, y: &Delivery, at: model::Place) -> std::ops::Range<usize
 }
 
 /// Writer, readers and converter on the delivery's file.
-fn stored(t: &mut Tally, shifts: Shifts, y: &Delivery) {
-    let (form, x) = (form_of(shifts), &y.x);
+pub fn stored(t: &mut Tally, name: &str, form: Form, y: &Delivery) {
+    let x = &y.x;
     let f = file_of(form, x);
+    let (read, converted) = (coded(file::read(&f)), file::converted(&f));
     let (mut out, mut other) = (vec![9; f.len()], vec![9; file::file_length(form.other(), x.s.m, y.k)]);
     let written = match form {
         Form::One => calls::write(x.s.m, &x.s.b, &x.w, &x.proof, &mut out),
         Form::Two => calls::write_form_two(x.s.m, &x.s.b, x.s.shift, &x.w, &x.proof, &mut out),
-    };
+    } == 0 && out == f;
+    out.fill(9);
     let number = calls::convert(&f, &mut other);
-    let moved = match file::converted(&f) {
+    let moved = match converted {
         Err(n) => number == n && other.iter().all(|b| *b == 9),
-        Ok(right) => number == 0 && other == right && calls::convert(&other, &mut out) == 0,
+        Ok(right) => number == 0 && other == right && calls::convert(&other, &mut out) == 0 && out == f,
     };
     let right = [
-        written == 0 && out == f,
-        calls::places(&f) == coded(file::read(&f)),
+        written,
+        calls::places(&f) == read,
         calls::prefix_places(&f) == calls::places(&f),
         calls::coin_bits(&f) == model::coin_bits(y.k),
-        moved && out == f,
+        moved,
         number == if x.s.shift == 0 { 0 } else { 14 },
     ];
-    t.group(&shifts.name(&format!("file at k = {}", y.k)), right.iter().filter(|x| !**x).count() as u64, 6);
+    t.group(&format!("file {name}"), right.iter().filter(|x| !**x).count() as u64, 6);
 }
 
-/// The checker from C on the delivery's file; in every second turn a symbol that the coin reads is changed.
-fn bytes(t: &mut Tally, shifts: Shifts, d: &mut Draw, y: &mut Delivery) {
-    let form = form_of(shifts);
+/// The checker from C on the delivery's file at such coins; in every second turn a symbol that the coin reads is changed.
+pub fn bytes(t: &mut Tally, name: &str, form: Form, d: &mut Draw, y: &mut Delivery, turns: usize, coin: impl Fn(&mut Draw, usize) -> u64) {
     let mut f = file_of(form, &y.x);
     let (mut wrong, mut met) = (0, Met::default());
-    for turn in 0..50 {
-        let (coin, at) = coin(d, y.k);
+    for turn in 0..turns {
+        let coin = coin(d, turn);
+        let at = read_place(d, y.k, coin);
         let symbol = d.below(1 << y.x.s.l) as u16;
         let kept = y.x.swap(at, symbol);
         let place = bytes_at(form, y, at);
@@ -133,16 +140,16 @@ fn bytes(t: &mut Tally, shifts: Shifts, d: &mut Draw, y: &mut Delivery) {
         y.x.swap(at, kept);
         f[place.clone()].copy_from_slice(&kept.to_le_bytes()[..place.len()]);
     }
-    t.answers(&shifts.name(&format!("coins from C at k = {}", y.k)), wrong, &met, &[0, 100]);
+    t.answers(&format!("coins from C {name}"), wrong, &met, &[0, 100]);
 }
 
 pub fn all(t: &mut Tally, shifts: Shifts) {
     let mut d = Draw(0xbb67ae8584caa73b);
-    for k in 8..=12 {
-        let mut y = delivery(&mut d, shifts, k);
-        whole(t, shifts, &mut d, &y);
-        symbols(t, shifts, &mut d, &mut y);
-        stored(t, shifts, &y);
-        bytes(t, shifts, &mut d, &mut y);
+    for k in 8..=13 {
+        let (mut y, name, form) = (delivery(&mut d, shifts, k), shifts.name(&format!("at k = {k}")), form_of(shifts));
+        whole(t, &name, &mut d, &y);
+        symbols(t, &name, &mut d, &mut y);
+        stored(t, &name, form, &y);
+        bytes(t, &name, form, &mut d, &mut y, 50, |d, _| coin(d, k));
     }
 }

@@ -2,6 +2,7 @@
 mod arithmetic;
 mod calls;
 mod codec;
+mod columns;
 mod convert;
 mod correction;
 mod counter;
@@ -10,6 +11,8 @@ mod file;
 mod files;
 mod forms;
 mod largest;
+mod lazy;
+mod limits;
 mod model;
 mod nearest;
 mod reduction;
@@ -102,6 +105,7 @@ pub fn basis(d: &mut Draw, l: u32, k: usize) -> Vec<u16> {
 }
 
 /// A modulus of degree l, a basis and a shift.
+#[derive(Clone)]
 pub struct Setting {
     pub l: u32,
     pub m: u32,
@@ -129,7 +133,7 @@ pub fn spoil_setting(d: &mut Draw, s: &mut Setting) {
         1 => s.m = 131072 + d.below(9000) as u32,
         2 => s.m = d.below(140000) as u32,
         3 => s.b.truncate(d.below(3) as usize),
-        4 => s.b = d.list(13 + j % 3, 1 << s.l),
+        4 => s.b = d.list(model::LARGEST + 1 + j % 3, 1 << s.l),
         5 => s.b[i] = (d.below(65536) as u32 | 1 << s.l) as u16,
         6 => s.b[i] = s.b[j] ^ s.b[(j + 1) % k as usize],
         _ => s.b[i] = [0, s.b[(i + 1) % k as usize]][d.below(2) as usize],
@@ -161,6 +165,9 @@ fn main() {
         correction::all(&mut t, shifts);
         largest::all(&mut t, shifts);
     }
+    lazy::all(&mut t);
+    columns::all(&mut t);
+    limits::all(&mut t);
     shifts::all(&mut t);
     for form in [Form::One, Form::Two] {
         files::all(&mut t, form);

@@ -2,7 +2,7 @@
 
 pub use crate::arithmetic::{degree, inverse, irreducible, mul};
 
-pub const LARGEST: usize = 12;
+pub const LARGEST: usize = 14;
 
 pub fn elem(basis: &[u16], i: usize) -> u16 {
     basis.iter().enumerate().filter(|(j, _)| i >> j & 1 == 1).fold(0, |s, (_, b)| s ^ b)
@@ -138,14 +138,14 @@ fn divide(m: u32, p: &[u16], q: &[u16]) -> (Vec<u16>, Vec<u16>) {
     (t, r)
 }
 
-fn row_basis(basis: &[u16], r: usize) -> Vec<u16> {
+pub fn row_basis(basis: &[u16], r: usize) -> Vec<u16> {
     let h = basis.len() / 2;
     let mut b = basis[..h + 2].to_vec();
     b.push(if r < 4 { basis[h + 2] } else { elem(&basis[h..], r) });
     b
 }
 
-fn column_basis(m: u32, basis: &[u16]) -> Vec<u16> {
+pub fn column_basis(m: u32, basis: &[u16]) -> Vec<u16> {
     let h = basis.len() / 2;
     basis[h..].iter().map(|b| vanish(m, &basis[..h], *b)).collect()
 }
@@ -156,7 +156,7 @@ pub fn vanish(m: u32, basis: &[u16], x: u16) -> u16 {
 }
 
 /// Q by the base-q digits of p: digit j is the coefficient of y^j, a polynomial in x.
-fn digits_of(m: u32, p: &[u16], q: &[u16], count: usize) -> Vec<Vec<u16>> {
+pub fn digits_of(m: u32, p: &[u16], q: &[u16], count: usize) -> Vec<Vec<u16>> {
     let mut digits = vec![];
     let mut rest = p.to_vec();
     for _ in 0..count {

@@ -1,5 +1,5 @@
 //! The delivery report: the program on whole streams, whose files have either form, beside the independent model.
-use crate::entries::{any_form, cut, large, noise};
+use crate::entries::{any_form, cut, head, large, noise};
 use crate::file::Form;
 use crate::files::{bytes, damaged_file, delivery, delivery_in, samples};
 use crate::stream::{entries, report, Known, FILES};
@@ -95,13 +95,15 @@ impl Streams {
 }
 
 /// One byte of the paper's file, in either form, changed: where, to what, and the number.
-const IN_FORM_ONE: [(usize, u8, u32); 19] = [
-    (0, 0, 11), (1, 0x32, 4), (2, 7, 1), (4, 2, 1), (2, 15, 2), (6, 0, 3), (6, 255, 3), (6, 8, 4), (8, 1, 4), (11, 3, 5), (13, 0, 11),
-    (14, 0x32, 11), (15, 7, 12), (19, 8, 9), (34, 1, 9), (35, 0, 11), (36, 0x32, 11), (37, 1, 12), (40, 1, 12),
+const IN_FORM_ONE: [(usize, u8, u32); 22] = [
+    (0, 0, 11), (1, 0x32, 4), (2, 7, 1), (4, 2, 1), (2, 15, 2), (6, 0, 3), (6, 15, 3), (6, 255, 3), (6, 8, 4), (6, 13, 4), (6, 14, 4),
+    (8, 1, 4), (11, 3, 5), (13, 0, 11), (14, 0x32, 11), (15, 7, 12), (19, 8, 9), (34, 1, 9), (35, 0, 11), (36, 0x32, 11),
+    (37, 1, 12), (40, 1, 12),
 ];
-const IN_FORM_TWO: [(usize, u8, u32); 21] = [
-    (0, 0, 11), (1, 0x45, 11), (2, 7, 1), (4, 2, 1), (2, 15, 2), (6, 0, 3), (6, 255, 3), (6, 8, 4), (8, 1, 4), (11, 3, 5), (13, 8, 4),
-    (14, 1, 4), (15, 0, 11), (16, 0x4f, 11), (17, 7, 12), (21, 8, 9), (28, 255, 9), (29, 0, 11), (30, 0x46, 11), (31, 1, 12), (34, 1, 12),
+const IN_FORM_TWO: [(usize, u8, u32); 23] = [
+    (0, 0, 11), (1, 0x45, 11), (2, 7, 1), (4, 2, 1), (2, 15, 2), (6, 0, 3), (6, 15, 3), (6, 255, 3), (6, 8, 4), (6, 13, 4), (8, 1, 4),
+    (11, 3, 5), (13, 8, 4), (14, 1, 4), (15, 0, 11), (16, 0x4f, 11), (17, 7, 12), (21, 8, 9), (28, 255, 9), (29, 0, 11), (30, 0x46, 11),
+    (31, 1, 12), (34, 1, 12),
 ];
 
 /// The file with the byte changed stands alone and between others.
@@ -122,7 +124,8 @@ fn fixed(s: &mut Streams) {
     let wide = setting_of(&mut s.d, 16, 7);
     let seven = bytes(&delivery_in(&mut s.d, Form::One, wide));
     let (three, eight, nine) = (s.files[0][0].clone(), s.files[5][1].clone(), bytes(&delivery(&mut s.d, Form::One, 9)));
-    let streams: [(&[&[u8]], usize, u32); 17] = [
+    let [thirteen, fourteen] = [13, 14].map(|k| head(&mut s.d, Form::One, k));
+    let streams: [(&[&[u8]], usize, u32); 22] = [
         (&[], 0, 0),
         (&[b"\n"], 1, 11),
         (&[b"SE\x0b"], 1, 11),
@@ -135,6 +138,11 @@ fn fixed(s: &mut Streams) {
         (&[&eight, &eight, &nine[..25], &three], 3, 6),
         (&[&three, &nine[..25]], 2, 6),
         (&[&three, &nine[..24]], 2, 11),
+        (&[&thirteen], 1, 6),
+        (&[&three, &fourteen, &three], 2, 6),
+        (&[&eight, &thirteen[..33]], 2, 6),
+        (&[&eight, &thirteen[..32]], 2, 11),
+        (&[&three, &fourteen[..34]], 2, 11),
         (&[&three, &seven[..7]], 2, 11),
         (&[&eight, &eight[..32802]], 2, 11),
         // the last bytes are those of the next file, which is then no file
@@ -155,7 +163,8 @@ fn fixed_forms(s: &mut Streams) {
     };
     let (three, seven, eight, nine) = (in_form_two(8, 3, 9), in_form_two(16, 7, 300), in_form_two(8, 8, 255), in_form_two(9, 9, 1));
     let first = s.files[0][0].clone();
-    let streams: [(&[&[u8]], usize, u32); 12] = [
+    let [thirteen, fourteen] = [13, 14].map(|k| head(&mut s.d, Form::Two, k));
+    let streams: [(&[&[u8]], usize, u32); 17] = [
         (&[&three], 0, 0),
         (&[&first, &three, &eight, &first, &seven, &eight], 0, 0),
         (&[b"S2\x0b"], 1, 11),
@@ -166,6 +175,11 @@ fn fixed_forms(s: &mut Streams) {
         (&[&eight, &eight, &nine[..27], &first], 3, 6),
         (&[&first, &nine[..27]], 2, 6),
         (&[&first, &nine[..26]], 2, 11),
+        (&[&thirteen], 1, 6),
+        (&[&first, &fourteen, &three], 2, 6),
+        (&[&eight, &fourteen[..37]], 2, 6),
+        (&[&eight, &thirteen[..34]], 2, 11),
+        (&[&three, &fourteen[..36]], 2, 11),
         (&[&eight, &eight[..16420]], 2, 11),
         // the last byte is that of the next file, which is then no file
         (&[&seven[..2082], &three], 2, 11),

@@ -86,6 +86,12 @@ pub struct Pair {
 }
 
 impl Pair {
+    pub fn at(&self, at: model::Place) -> u16 {
+        match at {
+            model::Place::Word(i) => self.w[i],
+            model::Place::Proof(i) => self.proof[i],
+        }
+    }
     /// Puts a symbol at a place, and gives the one that stood there.
     pub fn swap(&mut self, at: model::Place, x: u16) -> u16 {
         match at {
@@ -93,11 +99,15 @@ impl Pair {
             model::Place::Proof(i) => std::mem::replace(&mut self.proof[i], x),
         }
     }
+    /// The checker's answer.
+    pub fn check(&self, coin: u64) -> u64 {
+        calls::check(self.s.m, &self.s.b, self.s.shift, &self.w, &self.proof, coin)
+    }
     /// Whether the checker answers as the model; the answer goes into the table.
     pub fn same(&self, coin: u64, met: &mut Met) -> bool {
         let v = model::check(self.s.m, &self.s.b, self.s.shift, &self.w, &self.proof, coin);
         met.add(model::host_answer(v, 0).0);
-        calls::check(self.s.m, &self.s.b, self.s.shift, &self.w, &self.proof, coin) == v
+        self.check(coin) == v
     }
 }
 
