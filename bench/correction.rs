@@ -1,5 +1,5 @@
 //! Processor time of the proved correction beside Gao's decoder with tables of logarithms.
-use crate::plain::{Field, Space};
+use crate::plain::{Field, Space, MAX};
 use crate::plot::{Chart, Line};
 use crate::{calls, gao, nearest, plain, table, time, times, Row, MODULUS};
 
@@ -38,8 +38,8 @@ fn correction(f: &Field, basis: &[u16], w: &[u16], near: Option<(Vec<u16>, usize
     ]);
     let right = near.map(|x| x.0);
     assert!(right.as_ref().map_or(true, |c| *c == out));
-    let model = (n <= 256).then(|| time(|_| assert_eq!(nearest::nearest(MODULUS, basis, 0, w), right)) / 1000.0);
-    Row { at, proved: proved / 1000.0, plain: fast / 1000.0, model }
+    let model = (n <= 256).then(|| time(|_| assert_eq!(nearest::nearest(MODULUS, basis, 0, w), right)));
+    Row::new(at, proved, fast, model)
 }
 
 fn with_damage(f: &Field, basis: &[u16], count: usize, at: usize) -> Row {
@@ -65,15 +65,16 @@ fn undamaged(f: &Field, basis: &[u16]) {
 
 /// The tables of correction, and its charts: against damage at k = 12, and against k.
 pub fn all(f: &Field, basis: &[u16]) -> [Chart; 2] {
-    let damage: Vec<Row> = DAMAGE.iter().map(|e| with_damage(f, basis, *e, *e)).collect();
+    let at_12 = &basis[..12];
+    let damage: Vec<Row> = DAMAGE.iter().map(|e| with_damage(f, at_12, *e, *e)).collect();
     table("correction, with log tables by Gao's decoder, against the number of differences at k = 12", "off", &damage);
-    let far: Vec<u16> = (0..1 << basis.len()).map(|i| noise(i * i + 7)).collect();
-    let r = correction(f, basis, &far, None, 0);
+    let far: Vec<u16> = (0..4096).map(|i| noise(i * i + 7)).collect();
+    let r = correction(f, at_12, &far, None, 0);
     println!("no near codeword (13) at k = 12: proved {:.1}, log tables {:.1}, ratio {:.2}", r.proved, r.plain, r.proved / r.plain);
-    undamaged(f, basis);
+    undamaged(f, at_12);
 
     let against_k = AT_EACH_K.map(|(name, count, shift)| {
-        let rows: Vec<Row> = (7..=12).map(|k| with_damage(f, &basis[..k], count(1 << k), k)).collect();
+        let rows: Vec<Row> = (7..=MAX).map(|k| with_damage(f, &basis[..k], count(1 << k), k)).collect();
         table(&format!("correction with {name}"), "k", &rows);
         Line { name, rows, shift }
     });

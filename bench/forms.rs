@@ -10,7 +10,7 @@ fn coins(x: &file::File, one: &[u8]) {
         &mut |i| assert_eq!(calls::check_file(one, coin_at(k, i)).0, 0),
         &mut |i| assert_eq!(calls::check_file(&two, coin_at(k, i)).0, 0),
     ]);
-    println!("one coin from C on that file in form 1 {:.3} ms, in form 2 {:.3} ms, ratio {:.2}", first / 1e6, second / 1e6, second / first);
+    println!("the same at k = {k} in form 1 {:.3} ms, in form 2 {:.3} ms, ratio {:.2}", first / 1e6, second / 1e6, second / first);
 }
 
 /// Converting a file, the checks of all of it alone, and a plain way of making the same symbols without a check.

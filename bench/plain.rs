@@ -63,12 +63,15 @@ impl Field {
     }
 }
 
+/// The largest dimension.
+pub const MAX: usize = 14;
+
 /// images[i][j] is W_j(b_(i+1)) / W_j(b_(j+1)), and steps[j] is W_j(b_(j+1)).
 #[derive(Clone)]
 pub struct Space {
     pub k: usize,
-    images: [[u16; 16]; 12],
-    steps: [u16; 12],
+    images: [[u16; 16]; MAX],
+    steps: [u16; MAX],
 }
 
 fn xor(a: [u16; 16], b: [u16; 16]) -> [u16; 16] {
@@ -77,7 +80,7 @@ fn xor(a: [u16; 16], b: [u16; 16]) -> [u16; 16] {
 
 impl Space {
     pub fn new(f: &Field, basis: &[u16]) -> Space {
-        let mut s = Space { k: basis.len(), images: [[0; 16]; 12], steps: [0; 12] };
+        let mut s = Space { k: basis.len(), images: [[0; 16]; MAX], steps: [0; MAX] };
         let mut w = basis.to_vec();
         for j in 0..s.k {
             let step = w[j];
@@ -91,11 +94,11 @@ impl Space {
     }
 
     /// The images of the element with the bits of i over the basis from number `from` on.
-    fn element(&self, from: usize, i: usize) -> [u16; 16] {
+    pub fn element(&self, from: usize, i: usize) -> [u16; 16] {
         (0..self.k - from).filter(|j| i >> j & 1 == 1).fold([0; 16], |s, j| xor(s, self.images[from + j]))
     }
 
-    fn row(&self, r: usize) -> Space {
+    pub fn row(&self, r: usize) -> Space {
         let h = self.k / 2;
         let mut s = self.clone();
         s.k = h + 3;
@@ -105,9 +108,9 @@ impl Space {
         s
     }
 
-    fn column(&self) -> Space {
+    pub fn column(&self) -> Space {
         let h = self.k / 2;
-        let mut s = Space { k: self.k - h, images: [[0; 16]; 12], steps: [0; 12] };
+        let mut s = Space { k: self.k - h, images: [[0; 16]; MAX], steps: [0; MAX] };
         for i in 0..s.k {
             for j in 0..s.k {
                 s.images[i][j] = self.images[i + h][j + h];
@@ -117,7 +120,7 @@ impl Space {
     }
 }
 
-fn transform(f: &Field, s: &Space, shift: [u16; 16], values: &mut [u16]) {
+pub fn transform(f: &Field, s: &Space, shift: [u16; 16], values: &mut [u16]) {
     if values.len() == 1 {
         return;
     }
@@ -182,7 +185,7 @@ pub fn encode(f: &Field, s: &Space, p: &[u16]) -> Vec<u16> {
 }
 
 /// The coefficients over the novel basis of a codeword.
-fn block_coefficients(f: &Field, s: &Space, word: &[u16]) -> Option<Vec<u16>> {
+pub fn block_coefficients(f: &Field, s: &Space, word: &[u16]) -> Option<Vec<u16>> {
     let size = word.len() / 8;
     let mut first: Vec<u16> = Vec::new();
     for r in 0..8 {
@@ -211,83 +214,4 @@ pub fn decode(f: &Field, s: &Space, word: &[u16]) -> Option<Vec<u16>> {
     let mut d = block_coefficients(f, s, word)?;
     to_powers(f, s, &vanishing(f, s, s.k - 3), &mut d);
     Some(d)
-}
-
-fn slot(r: usize) -> usize {
-    r.min(4)
-}
-
-/// The proof of a codeword, at dimensions whose columns are short.
-pub fn prove(f: &Field, s: &Space, word: &[u16], proof: &mut [u16]) {
-    let (k, h) = (s.k, s.k / 2);
-    if k <= 6 {
-        return;
-    }
-    let (rows, size) = (1usize << (k - h), 1usize << h);
-    let (stored, inner) = proof.split_at_mut(7 << k);
-    let deep = if h + 3 > 6 { inner.len() / rows } else { 0 };
-    let (mut block, mut whole) = (vec![0; size], vec![0; 8 * size]);
-    for r in 0..rows {
-        let own = s.element(h, r);
-        let space = s.row(r);
-        let mut d = word[r * size..(r + 1) * size].to_vec();
-        inverse(f, s, own, &mut d);
-        for j in 0..8 {
-            if j == slot(r) {
-                whole[j * size..(j + 1) * size].copy_from_slice(&word[r * size..(r + 1) * size]);
-                continue;
-            }
-            block.copy_from_slice(&d);
-            transform(f, s, space.element(h, j), &mut block);
-            let at = (7 * r + j - (j > slot(r)) as usize) * size;
-            stored[at..at + size].copy_from_slice(&block);
-            whole[j * size..(j + 1) * size].copy_from_slice(&block);
-        }
-        prove(f, &space, &whole, &mut inner[r * deep..(r + 1) * deep]);
-    }
-}
-
-/// A word in eight blocks, of which `near` is number `slot`.
-struct Word<'a> {
-    near: &'a [u16],
-    far: &'a [u16],
-    slot: usize,
-}
-
-impl Word<'_> {
-    fn at(&self, i: usize) -> u16 {
-        let (j, o) = (i / self.near.len(), i % self.near.len());
-        if j == self.slot { self.near[o] } else { self.far[(j - (j > self.slot) as usize) * self.near.len() + o] }
-    }
-}
-
-fn check_word(f: &Field, s: &Space, w: Word, proof: &[u16], coin: u64) -> bool {
-    let (k, h) = (s.k, s.k / 2);
-    if k <= 6 {
-        let all: Vec<u16> = (0..1 << k).map(|i| w.at(i)).collect();
-        return block_coefficients(f, s, &all).is_some();
-    }
-    let (rows, size) = (1usize << (k - h), 1usize << h);
-    let taken = (coin >> 1) as usize;
-    if coin & 1 == 0 {
-        let r = taken % rows;
-        let deep = if h + 3 > 6 { (proof.len() - (7 << k)) / rows } else { 0 };
-        let at = (7 << k) + r * deep;
-        let near: Vec<u16> = (r * size..(r + 1) * size).map(|i| w.at(i)).collect();
-        let row = Word { near: &near, far: &proof[7 * r * size..7 * (r + 1) * size], slot: slot(r) };
-        return check_word(f, &s.row(r), row, &proof[at..at + deep], coin >> (1 + k - h));
-    }
-    let a = taken % (4 * size);
-    let (j, o) = (a / size, a % size);
-    let all: Vec<u16> = (0..rows)
-        .map(|r| if j == slot(r) { w.at(r * size + o) } else { proof[(7 * r + j - (j > slot(r)) as usize) * size + o] })
-        .collect();
-    let (near, far) = all.split_at(rows / 8);
-    check_word(f, &s.column(), Word { near, far, slot: 0 }, &[], coin >> (h + 3))
-}
-
-/// The verdict for one coin, at dimensions whose columns are short.
-pub fn check(f: &Field, s: &Space, word: &[u16], proof: &[u16], coin: u64) -> bool {
-    let (near, far) = word.split_at(word.len() / 8);
-    check_word(f, s, Word { near, far, slot: 0 }, proof, coin)
 }
