@@ -15,11 +15,13 @@ use Rattle.proximity.specs.Tree.{S-node, lengths, bits, maxProof, maxBit
 use Rattle.proximity.specs.Proof.{row}
 use Rattle.proximity.specs.declared.Line.{Line}
 use Rattle.proximity.specs.declared.Line.the-variants.{Row, Column}
+use Rattle.proximity.specs.declared.Place.{Place}
 use Rattle.proximity.specs.Verifier.{lineOf, bitsLeft, Accepts, positions}
 use Rattle.proximity.specs.ByLine.{InRange, lineDim, lineBasis, lineWord, lineProof, proofAt, proofEnd, linePlace}
 use Rattle.proximity.specs.Subspaces.{row-basis, col-basis}
 use Rattle.proximity.specs.Layout.{length-row, length-rowProof, length-colProof}
 use Rattle.proximity.specs.Lines.{line-cases}
+use Rattle.proximity.specs.Reads.{Inside, row-inside, col-inside}
 use Rattle.proximity.specs.Steps.{accepts-row, accepts-column, positions-row, positions-column}
 
 -- A coin takes a row or a column that there is
@@ -69,6 +71,11 @@ module _ (k : ℕ) (s : 7 ≤ k) where
     pub length-line-word : (w : List ℕ) → length w ≡ 2 ^ k → (l : Line) → InRange k l → length (lineWord k w π l) ≡ 2 ^ lineDim k l
     length-line-word w lw (Row r) h = length-row k w π lw (omega (arith, S-node k s)) r h
     length-line-word w lw (Column a) h = length-tab (2 ^ colDim k) (λ r. getD (row k w π r) a 0)
+
+  -- A place of a line's own word and proof lies inside the whole
+  pub line-inside : (l : Line) → InRange k l → (p : Place) → Inside (2 ^ lineDim k l) (S (lineDim k l)) p → Inside (2 ^ k) (S k) (linePlace k l p)
+  line-inside (Row r) h p i = subst (λ (n : ℕ). Inside (2 ^ k) n (linePlace k (Row r) p)) (sym (S-node k s)) (row-inside s (dim (rowDim k)) (dim (colDim k)) r h p i)
+  line-inside (Column a) h p i = subst (λ (n : ℕ). Inside (2 ^ k) n (linePlace k (Column a) p)) (sym (S-node k s)) (col-inside s (dim (rowDim k)) (dim (colDim k)) a h p i)
 
   -- The space of a line has a basis
   pub line-basis : {K : Ops} (F : IsField K) (b : List ℕ) → Basis K k b → (l : Line) → InRange k l → Basis K (lineDim k l) (lineBasis K k b l)

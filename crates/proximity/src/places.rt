@@ -9,13 +9,14 @@ use super::lines::line_proof_at;
 use super::lines::rest_of;
 use super::lines::slot;
 ghost use mathlib.Core.Path.{_≡_};
-ghost use Prim.Native.Nat.{_^_, _<_, _≤_};
+ghost use Prim.Native.Nat.{_+_, _^_, _<_, _≤_};
 ghost use lib.ListN.{length};
 ghost use Rattle.space.specs.Sizes.{maxDim};
-ghost use Rattle.proximity.specs.Dim.{rowDim, colDim, dim, S};
+ghost use Rattle.proximity.specs.Dim.{half, rowDim, colDim, dim, S};
 ghost use Rattle.proximity.specs.Verifier.{cell, positions};
 ghost use Rattle.proximity.specs.Reads.{Inside};
 ghost use Rattle.proximity.specs.ByLine.{InRange, lineDim, linePlace, placeAt};
+ghost use Rattle.proximity.specs.declared.Line.the-variants.{Column};
 
 // Where symbol i of row r lies: before, in or after the block that lies in the word.
 //
@@ -65,4 +66,16 @@ pub fn place(k: usize, coin: u64, i: usize) -> Place
     let line = line_of(k, coin);
     let inner = place(line_dimension(k, line), rest_of(k, coin), i);
     line_place(k, line, inner)
+}
+
+// The same for a coin that takes column a, by the bits that are left: a short column is read by rows.
+pub fn column_place(k: usize, a: usize, rest: u64, i: usize) -> Place
+    requires { ⌜ (7 ≤ k) × (k ≤ maxDim) × (a < 2 ^ (half k + 2)) × (i < length (positions (dim (colDim k)) rest)) ⌝ }
+    ensures { λ p. ⌜ p ≡ linePlace k (Column a) (placeAt (colDim k) rest i) ⌝ }
+{
+    let m = k - k / 2;
+    if m <= 6 {
+        return row_place(k, i, a);
+    }
+    line_place(k, Line::Column(a), place(m, rest, i))
 }

@@ -99,17 +99,14 @@ pub fn line_images(images: &[u16; CELLS], k: usize, line: Line) -> [u16; CELLS]
 //
 // Ruled out: the space of the first row or column, where that has a proof of its own; the bits left
 // over after a row taken for those after a column.
-pub fn leaf_space(s: Space, coin: u64) -> Space
-    requires { ⌜ (s .k ≤ maxDim) × (length (s .images) ≡ cells) ⌝ }
-    ensures { λ r. ⌜ LeafTable (s .k) (s .images) coin (r .k) (r .images) ⌝ }
+pub fn leaf_space(images: &[u16; CELLS], k: usize, coin: u64) -> Space
+    requires { ⌜ (k ≤ maxDim) × (length (now images) ≡ cells) ⌝ }
+    ensures { λ r. ⌜ LeafTable k (now (images .entry)) coin (r .k) (r .images) ⌝ }
 {
-    let k = s.k;
-    let images = s.images;
     if k <= 6 {
-        return s;
+        return Space { k, images: *images };
     }
     let line = line_of(k, coin);
-    let t = line_images(&images, k, line);
-    let m = line_dimension(k, line);
-    leaf_space(Space { k: m, images: t }, rest_of(k, coin))
+    let t = line_images(images, k, line);
+    leaf_space(&t, line_dimension(k, line), rest_of(k, coin))
 }

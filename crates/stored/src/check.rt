@@ -100,12 +100,10 @@ pub fn verdict(
     ensures { λ v. ⌜ ((b : List ℕ) → Basis (symbols (f .modulus)) (s .k) b → Images (symbols (f .modulus)) b (s .images) → Judged (symbols (f .modulus)) (s .k) b (numbersAt narrow (now (file .entry)) word (2 ^ s .k)) (numbersAt narrow (now (file .entry)) proof (S (s .k))) coin v) ⌝ }
 {
     let k = s.k;
-    let t = spaces::leaf_space(s, coin);
-    let m = t.k;
-    let images = t.images;
-    let n = 1usize << m;
+    let t = spaces::leaf_space(&s.images, k, coin);
+    let n = 1usize << t.k;
     let read = symbols(file, narrow, word, proof, k, coin, n);
-    if accepts(f, m, &images, read) {
+    if accepts(f, t.k, &t.images, read) {
         return Verdict::Accept(n);
     }
     Verdict::Reject(n)

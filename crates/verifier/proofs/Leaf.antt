@@ -8,30 +8,18 @@ use Rattle.field.specs.Symbols.{symbols, symbols-field}
 use Rattle.field.specs.declared.Field.{Field}
 use Rattle.poly.specs.Codeword.{Basis}
 use Rattle.space.specs.Images.{Images}
-use Rattle.proximity.specs.ByLine.{lineDim}
-use Rattle.proximity.specs.Dim.{dim}
-use Rattle.proximity.specs.LeafTable.{LeafTable, leaf-line, leaf-low}
-use Rattle.proximity.specs.LineImages.{LineTable}
+use Rattle.proximity.specs.Dim.{dim, S}
+use Rattle.proximity.specs.LeafTable.{LeafTable, leaf-low}
 use Rattle.proximity.specs.Reads.{leafBasis, leaf-small, length-positions}
 use Rattle.proximity.specs.Verdict.{leaf-basis}
-use Rattle.proximity.specs.Verifier.{lineOf, bitsLeft}
-use Rattle.proximity.specs.declared.Line.{Line}
 use Rattle.verifier.specs.Checker.{OnCoin, symbolsAt, readsOf}
 use Rattle.verifier.specs.OnCoin.{on-leaf}
-use Rattle.verifier.specs.Parts.{InSpace, Lent, joined}
+use Rattle.verifier.specs.Parts.{InSpace}
 use Rattle.verifier.specs.declared.Verdict.{Verdict}
-use Rattle.verifier.proofs.Lines.{Claim, word-long}
+use Rattle.verifier.proofs.Lines.{Claim}
 
--- at dimension 7 or more, with the table of the line that the coin takes and that of the space at which it ends
-module _ (f : Field) (k : ℕ) (t near far : List ℕ) (s : ℕ) (π : List ℕ) (coin : ℕ) (S₀ : InSpace f k t) (L : Lent k near far s π) (h : 7 ≤ k) (l : Line) (el : l ≡ lineOf k coin)
-    (m : ℕ) (em : m ≡ lineDim k l) (t′ : List ℕ) (T : LineTable k t l t′) (rest : ℕ) (er : rest ≡ bitsLeft k coin) (e : ℕ) (u : List ℕ) (U : LeafTable m t′ rest e u) where
-  abbrev w : List ℕ
-  w = joined near far s
-
-  table : LeafTable k t coin e u
-  table =
-      leaf-line h (subst (λ (x : Line). LineTable k t x t′) el T) (transport (λ i. LeafTable ((em ∙ ap (lineDim k) el) i) t′ (er i) e u) U)
-
+-- a word and its proof, and the table u of the space at which the coin ends, of dimension e
+module _ (f : Field) (k : ℕ) (t : List ℕ) (S₀ : InSpace f k t) (w π : List ℕ) (lw : length w ≡ 2 ^ k) (lπ : length π ≡ S k) (coin e : ℕ) (u : List ℕ) (table : LeafTable k t coin e u) where
   small : e ≤ 6
   small = omega (arith, table .dimension, leaf-small (dim k) coin)
 
@@ -61,7 +49,7 @@ module _ (f : Field) (k : ℕ) (t near far : List ℕ) (s : ℕ) (π : List ℕ)
   -- the answer on the symbols that the coin reads is that on the whole
   outer-claim : (v : Verdict) (short ρ : List ℕ) (c : ℕ) → short ≡ symbolsAt k w π coin → Claim f e u short ρ c v → Claim f k t w π coin v
   outer-claim v short ρ c es claim b B I =
-      on-leaf (symbols (f .modulus)) k b w π (word-long f k t near far s π coin S₀ L) (L .proof) coin ρ c v
+      on-leaf (symbols (f .modulus)) k b w π lw lπ coin ρ c v
       (transport (λ i. OnCoin (symbols (f .modulus)) (table .dimension i) (leafBasis (symbols (f .modulus)) (dim k) b coin) (es i) ρ c v)
       (claim (leafBasis (symbols (f .modulus)) (dim k) b coin) (last-basis b B) (last-table b B I)))
 

@@ -54,7 +54,7 @@ module _ (k : ℕ) (s : 7 ≤ k) (w π : List ℕ) (lw : length w ≡ 2 ^ k) (l�
   stored : 7 * 2 ^ k ≤ length π
   stored = omega (arith, S-node k s)
 
-  read-line : (l : Line) → InRange k l → (p : Place) → Inside (2 ^ lineDim k l) (S (lineDim k l)) p → readAt (lineWord k w π l) (lineProof k π l) p ≡ readAt w π (linePlace k l p)
+  pub read-line : (l : Line) → InRange k l → (p : Place) → Inside (2 ^ lineDim k l) (S (lineDim k l)) p → readAt (lineWord k w π l) (lineProof k π l) p ≡ readAt w π (linePlace k l p)
   read-line (Row r) h p i = read-row k w π lw stored (S (lineDim k (Row r))) r h p i
   read-line (Column a) h p i = read-col k w π lw stored _ (S (lineDim k (Column a))) a h p i
 

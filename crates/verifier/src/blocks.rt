@@ -4,16 +4,15 @@
 use proximity::Line;
 use proximity::Place;
 use proximity::lines;
-use proximity::places;
 ghost use mathlib.Core.Path.{_≡_};
 ghost use Prim.Native.Nat.{_+_, _-_, _*_, _%_, _^_, _<_, _≤_};
 ghost use lib.ListN.{length, take, drop, getD};
 ghost use Rattle.lists.specs.Tables.{part};
 ghost use Rattle.space.specs.Sizes.{maxDim};
 ghost use Rattle.proximity.specs.Dim.{half, colDim, S};
-ghost use Rattle.proximity.specs.ByLine.{InRange, lineProof, placeAt};
+ghost use Rattle.proximity.specs.ByLine.{InRange, lineProof};
+ghost use Rattle.proximity.specs.Reads.{Inside};
 ghost use Rattle.proximity.specs.Verifier.{readAt};
-ghost use Rattle.verifier.specs.Checker.{readsOf};
 ghost use Rattle.verifier.specs.Parts.{InParts, Lent, joined};
 
 // Block j, as a part of one of the two lent slices.
@@ -91,20 +90,19 @@ pub fn line_proof(proof: &[u16], k: usize, line: Line) -> &[u16]
     &proof[at..end]
 }
 
-// The symbol of number i that a coin reads, from its own place.
-pub fn read_symbol<'a>(
+// The symbol at a place of the lent word or the lent proof.
+pub fn symbol_at<'a>(
     near: &'a [u16],
     far: &'a [u16],
     slot: usize,
     proof: &'a [u16],
     k: usize,
-    coin: u64,
-    i: usize,
+    place: Place,
 ) -> u16
-    requires { ⌜ Lent k (now near) (now far) slot (now proof) × (3 ≤ k) × (k ≤ maxDim) × (i < readsOf k coin) ⌝ }
-    ensures { λ s. ⌜ s ≡ readAt (joined (now (near .entry)) (now (far .entry)) slot) (now (proof .entry)) (placeAt k coin i) ⌝ }
+    requires { ⌜ Lent k (now near) (now far) slot (now proof) × (3 ≤ k) × (k ≤ maxDim) × Inside (2 ^ k) (S k) place ⌝ }
+    ensures { λ s. ⌜ s ≡ readAt (joined (now (near .entry)) (now (far .entry)) slot) (now (proof .entry)) place ⌝ }
 {
-    match places::place(k, coin, i) {
+    match place {
         Place::InWord(at) => symbol(near, far, slot, (k - 3) as u32, at),
         Place::InProof(at) => proof[at],
     }

@@ -8,7 +8,6 @@ use proximity::Line;
 use proximity::lines;
 use proximity::spaces;
 use space::CELLS;
-use space::Space;
 ghost use mathlib.Core.Path.{_≡_};
 ghost use mathlib.Core.List.{List};
 ghost use Prim.Native.Nat.{ℕ, _-_, _/_, _^_, _≤_};
@@ -76,6 +75,7 @@ pub fn check_parts<'a>(
     let line = lines::line_of(k, coin);
     let m = lines::line_dimension(k, line);
     let t = spaces::line_images(images, k, line);
+    let inner = blocks::line_proof(proof, k, line);
     match line {
         Line::Row(r) => check_parts(
             f,
@@ -84,27 +84,18 @@ pub fn check_parts<'a>(
             blocks::row_near(near, far, slot, k, r),
             blocks::row_far(proof, k, r),
             lines::slot(r),
-            blocks::line_proof(proof, k, line),
+            inner,
             rest,
         ),
-        Line::Column(_) => {
-            let s = spaces::leaf_space(Space { k: m, images: t }, rest);
-            let e = s.k;
-            let u = s.images;
-            let n = 1usize << e;
-            let read = gather::symbols(near, far, slot, proof, k, coin, n);
+        Line::Column(a) => {
+            let s = spaces::leaf_space(&t, m, rest);
+            let n = 1usize << s.k;
+            let read = gather::symbols(near, far, slot, proof, k, a, rest, n);
             let short = &read[..n];
-            let none = &proof[..0];
-            check_parts(
-                f,
-                e,
-                &u,
-                first_block(short),
-                other_blocks(short),
-                0,
-                none,
-                0,
-            )
+            let first = first_block(short);
+            let others = other_blocks(short);
+            let none = &inner[..0];
+            check_parts(f, s.k, &s.images, first, others, 0, none, 0)
         }
     }
 }

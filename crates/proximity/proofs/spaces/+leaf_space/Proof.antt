@@ -21,40 +21,40 @@ use Rattle.proximity.proofs.spaces.line_images.Reads as line-images-rea
 use Rattle.proximity.proofs.spaces.+leaf_space.{statement}
 use Rattle.proximity.proofs.spaces.+leaf_space.Tie.{close}
 
-abbrev μ : Measures 0 leaf-space-kinds.ps ℕ
-μ κs a = a .0 .k
+abbrev μ : Measures 1 leaf-space-kinds.ps ℕ
+μ κs a = a .1 .0
 
-abbrev at : ℕ → In 0 leaf-space-kinds.ps
-at t = and 0 leaf-space-kinds.ps (is 0 leaf-space-kinds.ps μ t) leaf-space.Pre
+abbrev at : ℕ → In 1 leaf-space-kinds.ps
+at t = and 1 leaf-space-kinds.ps (is 1 leaf-space-kinds.ps μ t) leaf-space.Pre
 
-abbrev below : ℕ → In 0 leaf-space-kinds.ps
-below t = and 0 leaf-space-kinds.ps (falls 0 leaf-space-kinds.ps _<_ μ t) leaf-space.Pre
+abbrev below : ℕ → In 1 leaf-space-kinds.ps
+below t = and 1 leaf-space-kinds.ps (falls 1 leaf-space-kinds.ps _<_ μ t) leaf-space.Pre
 
 abbrev claims : ℕ → leaf-space-lts.Claims
 claims t = (line-of-reads.Asked, line-of-reads.Learnt, line-images-reads.Asked, line-images-reads.Learnt, line-dimension-reads.Asked, line-dimension-reads.Learnt, rest-of-reads.Asked, rest-of-reads.Learnt, below t, leaf-space.Post)
 
 returns : (t : ℕ) → leaf-space-lts.Need-returns (claims t) (at t) leaf-space.Post
-returns t c = let a = c .before .before .args in leaf-here (a .s .k) (a .s .images) (a .coin) (omega arith)
+returns t c = let a = c .before .before .args in leaf-here (a .k) (a .images .now) (a .coin) (omega arith)
 
 line-of-requires : (t : ℕ) → leaf-space-lts.Need-line-of-requires (claims t) (at t) leaf-space.Post
-line-of-requires t c κs = c .before .before .pre .1 .0
+line-of-requires t c κs = c .before .pre .1 .0
 
 line-images-requires : (t : ℕ) → leaf-space-lts.Need-line-images-requires (claims t) (at t) leaf-space.Post
-line-images-requires t c κs = let s = c .before .before .before .before in (omega arith, s .pre .1 .0, s .pre .1 .1)
+line-images-requires t c κs = let s = c .before .before in (omega arith, s .pre .1 .0, s .pre .1 .1)
 
 line-dimension-requires : (t : ℕ) → leaf-space-lts.Need-line-dimension-requires (claims t) (at t) leaf-space.Post
-line-dimension-requires t c κs = c .before .before .before .before .before .pre .1 .0
+line-dimension-requires t c κs = c .before .before .before .before .pre .1 .0
 
 rest-of-requires : (t : ℕ) → leaf-space-lts.Need-rest-of-requires (claims t) (at t) leaf-space.Post
-rest-of-requires t c κs = c .before .before .before .before .before .before .pre .1 .0
+rest-of-requires t c κs = c .before .before .before .before .before .pre .1 .0
 
 -- the line that the coin takes, its table, its dimension and the bits left over
 module _ (t : ℕ) (c : leaf-space-lts.After-rest-of (claims t) (at t) leaf-space.Post) where
   abbrev start : leaf-space-lts.Start (claims t) (at t) leaf-space.Post
-  start = c .before .before .before .before .before .before .before
+  start = c .before .before .before .before .before .before
 
   abbrev k : ℕ
-  k = start .args .s .k
+  k = start .args .k
 
   abbrev coin : ℕ
   coin = start .args .coin
@@ -66,13 +66,13 @@ module _ (t : ℕ) (c : leaf-space-lts.After-rest-of (claims t) (at t) leaf-spac
   taken = c .before .before .before .before .line-of .ensures
 
   abbrev inner : List ℕ
-  inner = c .before .before .line-images .result
+  inner = c .before .before .before .line-images .result
 
   large : 7 ≤ k
   large = omega arith
 
-  table : LineTable k (start .args .s .images) line inner
-  table = subst (λ (l : Line). LineTable k (start .args .s .images) l inner) taken (c .before .before .line-images .ensures)
+  table : LineTable k (start .args .images .now) line inner
+  table = subst (λ (l : Line). LineTable k (start .args .images .now) l inner) taken (c .before .before .before .line-images .ensures)
 
   dimension : c .before .line-dimension .result ≡ lineDim k line
   dimension = c .before .line-dimension .ensures ∙ ap (lineDim k) taken
@@ -84,7 +84,7 @@ leaf-space-requires : (t : ℕ) → leaf-space-lts.Need-leaf-space-requires (cla
 leaf-space-requires t c κs =
     let s = start t c in (
       omega (arith, less t c, s .pre .0),
-      (omega (arith, less t c, s .pre .1 .0), length-line-table (k t c) (s .args .s .images) (line t c) (inner t c) (s .pre .1 .1) (table t c)),
+      (omega (arith, less t c, s .pre .1 .0), length-line-table (k t c) (s .args .images .now) (line t c) (inner t c) (s .pre .1 .1) (table t c)),
     )
 
 returns-2 : (t : ℕ) → leaf-space-lts.Need-returns-2 (claims t) (at t) leaf-space.Post

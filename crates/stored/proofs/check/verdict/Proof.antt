@@ -27,15 +27,15 @@ use Rattle.stored.proofs.check.verdict.Statement.{statement}
 use Rattle.stored.proofs.check.verdict.Tie as tie
 
 leaf-space-requires : tie.Need-leaf-space-requires
-leaf-space-requires c κs = let s = c .before in (s .pre .0 .0 .high, s .pre .0 .0 .table .count)
+leaf-space-requires c κs = let s = c .before .before .before in (s .pre .0 .0 .high, s .pre .0 .0 .table .count)
 
 -- the space at which the coin ends
 module _ (c : tie.After-leaf-space) where
   abbrev start : tie.Start
-  start = c .before .before
+  start = c .before .before .before .before
 
   abbrev k : ℕ
-  k = start .args .s .k
+  k = start .args .t2 .k
 
   abbrev coin : ℕ
   coin = start .args .coin
@@ -65,20 +65,20 @@ module _ (c : tie.After-leaf-space) where
   reads = size ∙ ap (λ (j : ℕ). 2 ^ j) (c .leaf-space .ensures .dimension) ∙ sym (length-positions (dim k) coin)
 
 shl-n : tie.Need-shl-n
-shl-n c = omega (arith, small (c .before))
+shl-n c = omega (arith, small c)
 
 symbols-requires : tie.Need-symbols-requires
-symbols-requires c κs = (start (c .before) .pre .0 .1, reads (c .before))
+symbols-requires c κs = (start c .pre .0 .1, reads c)
 
 -- the symbols read
 module _ (c : tie.After-symbols) where
   abbrev found : tie.After-leaf-space
-  found = c .before .before
+  found = c .before
 
   read : take (2 ^ m found) (c .symbols .result) ≡ symbolsAt (k found) (w found) (π found) (coin found)
   read = ap (λ (j : ℕ). take j (c .symbols .result)) (sym (size found)) ∙ c .symbols .ensures .1
 
-  table : (b : List ℕ) → Basis (K found) (k found) b → Images (K found) b (start found .args .s .images) → Images (K found) (leafBasis (K found) (dim (k found)) b (coin found)) (found .leaf-space .result .images)
+  table : (b : List ℕ) → Basis (K found) (k found) b → Images (K found) b (start found .args .t2 .images) → Images (K found) (leafBasis (K found) (dim (k found)) b (coin found)) (found .leaf-space .result .images)
   table b B I = found .leaf-space .ensures .right (start found .args .f .modulus) (start found .pre .0 .0 .irreducible) b B I
 
   in-blocks : InBlocks (start found .args .f) (found .leaf-space .result .images) (m found) (take (2 ^ m found) (c .symbols .result))
@@ -100,17 +100,17 @@ module _ (c : tie.After-symbols) where
       length-symbols = rw length-map (sym (reads found) ∙ size found)
 
 accepts-requires : tie.Need-accepts-requires
-accepts-requires c κs = (in-blocks (c .before), small (found (c .before)), c .before .symbols .ensures .0)
+accepts-requires c κs = let s = c .before .before in (in-blocks s, small (found s), s .symbols .ensures .0)
 
 -- the test decides acceptance
 module _ (c : tie.After-accepts) where
   abbrev got : tie.After-symbols
-  got = c .before .before
+  got = c .before .before .before
 
   abbrev at : tie.After-leaf-space
   at = found got
 
-  decides : (b : List ℕ) → Basis (K at) (k at) b → Images (K at) b (start at .args .s .images) → Decides (c .accepts .result) (Accepts (K at) (dim (k at)) b (w at) (π at) (coin at))
+  decides : (b : List ℕ) → Basis (K at) (k at) b → Images (K at) b (start at .args .t2 .images) → Decides (c .accepts .result) (Accepts (K at) (dim (k at)) b (w at) (π at) (coin at))
   decides b B I =
       decides-accepts (K at) (k at) b (w at) (π at) (length-numbers (start at .args .narrow) (start at .args .file .now) (start at .args .word) (2 ^ k at))
       (length-numbers (start at .args .narrow) (start at .args .file .now) (start at .args .proof) (S (k at))) (coin at) (c .accepts .result)
