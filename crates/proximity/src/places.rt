@@ -71,7 +71,7 @@ pub fn place(k: usize, coin: u64, i: usize) -> Place
 // The same for a coin that takes column a, by the bits that are left: a short column is read by rows.
 pub fn column_place(k: usize, a: usize, rest: u64, i: usize) -> Place
     requires { ⌜ (7 ≤ k) × (k ≤ maxDim) × (a < 2 ^ (half k + 2)) × (i < length (positions (dim (colDim k)) rest)) ⌝ }
-    ensures { λ p. ⌜ p ≡ linePlace k (Column a) (placeAt (colDim k) rest i) ⌝ }
+    ensures { λ p. ⌜ (p ≡ linePlace k (Column a) (placeAt (colDim k) rest i)) × Inside (2 ^ k) (S k) p ⌝ }
 {
     let m = k - k / 2;
     if m <= 6 {

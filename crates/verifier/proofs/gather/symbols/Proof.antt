@@ -8,10 +8,9 @@ use Rattle.lists.specs.Filled.{Filled, filled-none, filled-front, filled-take}
 use Rattle.lists.specs.Tables.{tab}
 use Rattle.poly.specs.Blocks.{eighths}
 use Rattle.proximity.specs.ByLine.{lineWord, lineProof, placeAt}
-use Rattle.proximity.specs.Dim.{half, colDim, dim, S}
-use Rattle.proximity.specs.LineLaws.{line-inside}
+use Rattle.proximity.specs.Dim.{half, colDim, dim}
 use Rattle.proximity.specs.PlaceLaws.{place-inside}
-use Rattle.proximity.specs.Reads.{Inside, few-reads}
+use Rattle.proximity.specs.Reads.{few-reads}
 use Rattle.proximity.specs.Verifier.{readAt}
 use Rattle.proximity.specs.declared.Line.the-variants.{Column}
 use Rattle.verifier.specs.Checker.{readsOf}
@@ -74,14 +73,7 @@ column-place-requires c κs =
 
 symbol-at-requires : tie.Need-symbol-at-requires Inv-loop μ-loop
 symbol-at-requires c κs =
-    let h = c .before in
-    let p = start h .pre in (
-      p .0,
-      omega (arith, p .1),
-      p .2,
-      subst (Inside (2 ^ k h) (S (k h))) (sym (c .column-place .ensures))
-          (line-inside (k h) (p .1) (Column (start h .args .a)) (p .3) (placeAt (colDim (k h)) (rest h) (i h)) (place-inside (colDim (k h)) (rest h) (i h) (read h))),
-    )
+    let p = start (c .before) .pre in (p .0, omega (arith, p .1), p .2, c .column-place .ensures .1)
 
 mul-out : tie.Need-mul-out Inv-loop μ-loop
 mul-out c = omega (arith, room (c .before .before))
@@ -101,7 +93,7 @@ loop-again c =
     let s = start h in
     let v = h .before .loop .inv in
     let told =
-    c .symbol-at .ensures ∙ ap (readAt (word h) (s .args .proof .now)) (c .before .column-place .ensures)
+    c .symbol-at .ensures ∙ ap (readAt (word h) (s .args .proof .now)) (c .before .column-place .ensures .0)
     ∙ sym (read-line (k h) (s .pre .1) (word h) (s .args .proof .now) (long h) (s .pre .0 .proof) (Column (s .args .a)) (s .pre .3) (placeAt (colDim (k h)) (rest h) (i h)) (place-inside (colDim (k h)) (rest h) (i h) (read h))) in
     (omega arith, v .1, filled-front (c .symbol-at .result) (omega (arith, room h, v .1)) told (v .2))
 
