@@ -56,103 +56,35 @@ fn bases() {
     show(b"1 2 2", 11, &[1, 2, 2], 0);
     show(b"7 3 1", 11, &[7, 3, 1], 0);
     show(b"1 2 4 3", 11, &[1, 2, 4, 3], 0);
-    show(
-        b"12 elements",
-        65579,
-        &[1, 2, 4, 8, 16, 32, 64, 128, 256, 512, 1024, 2048],
-        0,
-    );
-    show(
-        b"13 elements",
-        65579,
-        &[1, 2, 4, 8, 16, 32, 64, 128, 256, 512, 1024, 2048, 4096],
-        0,
-    );
-    show(
-        b"14 elements",
-        65579,
-        &[
-            1,
-            2,
-            4,
-            8,
-            16,
-            32,
-            64,
-            128,
-            256,
-            512,
-            1024,
-            2048,
-            4096,
-            8192,
-        ],
-        0,
-    );
-    show(
-        b"15 elements",
-        65579,
-        &[
-            1,
-            2,
-            4,
-            8,
-            16,
-            32,
-            64,
-            128,
-            256,
-            512,
-            1024,
-            2048,
-            4096,
-            8192,
-            16384,
-        ],
-        0,
-    );
-    show(
-        b"14 elements, l = 13",
-        8219,
-        &[
-            1,
-            2,
-            4,
-            8,
-            16,
-            32,
-            64,
-            128,
-            256,
-            512,
-            1024,
-            2048,
-            4096,
-            8192,
-        ],
-        0,
-    );
-    show(
-        b"14 elements below 2^13, l = 13",
-        8219,
-        &[
-            1,
-            2,
-            4,
-            8,
-            16,
-            32,
-            64,
-            128,
-            256,
-            512,
-            1024,
-            2048,
-            4096,
-            8191,
-        ],
-        0,
-    );
+}
+
+// At most 14 elements, and no more than the field has room for.
+fn most_elements() {
+    let powers = [
+        1u16,
+        2,
+        4,
+        8,
+        16,
+        32,
+        64,
+        128,
+        256,
+        512,
+        1024,
+        2048,
+        4096,
+        8192,
+        16384,
+    ];
+    let mut dependent = powers;
+    dependent[13] = 8191;
+    show(b"12 elements", 65579, &powers[..12], 0);
+    show(b"13 elements", 65579, &powers[..13], 0);
+    show(b"14 elements", 65579, &powers[..14], 0);
+    show(b"15 elements", 65579, &powers, 0);
+    show(b"14 elements, l = 13", 8219, &powers[..14], 0);
+    show(b"14 elements below 2^13, l = 13", 8219, &dependent[..14], 0);
 }
 
 // The shift is check 4, after the basis elements and before check 5.
@@ -183,6 +115,7 @@ fn case_four() {
 fn main() {
     moduli();
     bases();
+    most_elements();
     shifts();
     case_four();
 }
