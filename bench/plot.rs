@@ -24,9 +24,9 @@ fn x(i: usize, count: usize) -> f64 {
     70.0 + i as f64 * (WIDTH - 190.0) / (count - 1) as f64
 }
 
-/// From 1 microsecond at the bottom to 1 second at the top.
+/// From 1 microsecond at the bottom to 10 seconds at the top.
 fn y(us: f64) -> f64 {
-    HEIGHT - 50.0 - us.max(1.0).log10() * (HEIGHT - 80.0) / 6.0
+    HEIGHT - 50.0 - us.max(1.0).log10() * (HEIGHT - 80.0) / 7.0
 }
 
 fn line(top: f64, times: &[f64], colour: &str, dash: &str) -> String {
@@ -37,8 +37,8 @@ fn line(top: f64, times: &[f64], colour: &str, dash: &str) -> String {
 fn axes(c: &Chart, top: f64) -> String {
     let mut s = format!("<text x=\"70\" y=\"{}\">{}</text>\n", top + 18.0, c.title);
     let rows = &c.lines[0].rows;
-    for (us, label) in [(1.0, "1 µs"), (10.0, "10 µs"), (100.0, "100 µs"), (1e3, "1 ms"), (1e4, "10 ms"), (1e5, "100 ms"), (1e6, "1 s")] {
-        let at = top + y(us);
+    for (i, label) in ["1 µs", "10 µs", "100 µs", "1 ms", "10 ms", "100 ms", "1 s", "10 s"].into_iter().enumerate() {
+        let at = top + y(10f64.powi(i as i32));
         s += &format!("<line x1=\"70\" y1=\"{at:.1}\" x2=\"{:.1}\" y2=\"{at:.1}\" stroke=\"#dddddd\"/>\n", WIDTH - 120.0);
         s += &format!("<text x=\"62\" y=\"{:.1}\" text-anchor=\"end\">{label}</text>\n", at + 4.0);
     }

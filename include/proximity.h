@@ -8,7 +8,7 @@
  * `out`. These must not lie among the file's bytes, and a refused call leaves them as they came. The calls take no memory and
  * keep nothing, so that several threads may call at once.
  *
- * Each call checks the whole file, about 0.17 ms at dimension 12: make few calls for each file. */
+ * Each call checks the whole file, about 0.17 ms at dimension 12 and 10 ms at dimension 14: make few calls for each file. */
 #ifndef PROXIMITY_H
 #define PROXIMITY_H
 

@@ -2,7 +2,7 @@
 use mathlib.Core.Path.{_≡_, refl, sym, ap, _∙_, subst}
 use mathlib.Core.Bool.{Bool, true, false}
 use mathlib.Core.List.{List}
-use Prim.Native.Nat.{ℕ, _+_, _*_, _/_, _%_, _≤_, _<_}
+use Prim.Native.Nat.{ℕ, _+_, _*_, _/_, _%_, _≤_}
 use native.Mathlib.Omega.{arith}
 use lib.Dec.{ltb, eqb}
 use lib.ListN.{length, getD}
@@ -77,7 +77,7 @@ leaf-line {k} {t} {coin} {v} {j} {u} s T a =
           (a .right m i (lineBasis (symbols m) k b (lineOf k coin)) (line-basis k s (symbols-field m i) b B (lineOf k coin) (line-in-range k coin)) (T .right m i b B I));
     }
 
--- its dimension is 3 at least, as that of a setting
+-- its dimension is at least 3 where that of the whole is
 pub leaf-low : {k : ℕ} (d : Dim k) (coin : ℕ) → 3 ≤ k → 3 ≤ leafDim d coin
 leaf-low (leaf s) coin h = h
 leaf-low (node {k = k} s rows cols) coin h =

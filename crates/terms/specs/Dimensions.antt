@@ -16,7 +16,6 @@ use Rattle.field.specs.Calls.{modulus-numbered}
 use Rattle.field.specs.Checks.{modulusChecks, GoodModulus, good-passes}
 use Rattle.space.specs.Setting.{spanChecks, spaceChecks, settingChecks}
 use Rattle.space.specs.Sizes.{maxDim}
-use Rattle.space.specs.Sound.{outside}
 use Rattle.proximity.specs.ByLine.{proofAt, linePlace}
 use Rattle.proximity.specs.Cases.{row-four, p9}
 use Rattle.proximity.specs.Dim.{colDim, dim, S, R}
@@ -81,7 +80,7 @@ largest-bits = (sym (table-at R bits (maxDim + 1) (tables-right .1) 13 (omega ar
 pub deep-columns : (colDim 13 ≡ 7) × (colDim 14 ≡ 7)
 deep-columns = (refl, refl)
 
--- Coin 8203 takes column 5 there, then row 4 in it; coin 64523 takes column 31 in it.
+-- At dimension 14 coin 8203 takes column 5 and row 4 inside it; coin 64523 takes the same column and column 31 inside it.
 pub coins-inside : (lineOf 14 8203 ≡ Column 5) × (lineOf 7 (bitsLeft 14 8203) ≡ Row 4) × (lineOf 14 64523 ≡ Column 5) × (lineOf 7 (bitsLeft 14 64523) ≡ Column 31)
 unfolding lineOf bitsLeft pick
 coins-inside = (refl, refl, refl, refl)

@@ -1,6 +1,6 @@
 -- `proximity::places::column_place` meets its contract. Assumes nothing.
 use mathlib.Core.Path.{_≡_, sym, ap, _∙_, subst}
-use Prim.Native.Nat.{ℕ, _^_, _<_}
+use Prim.Native.Nat.{_^_}
 use native.Mathlib.Omega.{arith}
 use Rattle.proximity.specs.ByLine.{linePlace, placeAt}
 use Rattle.proximity.specs.Dim.{half, colDim, S}
