@@ -1,9 +1,12 @@
 //! Processor time of the proved calls beside the independent model and beside a plain implementation with tables of logarithms, in one
-//! run, of the converter beside a plain copy, and the time of the delivery report beside that of the counter; before them the memory that
-//! the proved calls take. The plain implementation checks no input; the proved calls make all their checks. With two file names, plots are
-//! written there: of encoder, decoder and prover, and of the correction.
+//! run, of a coin that rejects beside one that accepts, of the converter beside a plain copy, and the time of the delivery report beside that
+//! of the counter; before them the memory that the proved calls take. The plain implementation checks no input; the proved calls make all
+//! their checks. With two file names, plots are written there: of encoder, decoder and prover, and of the correction.
 #[path = "../tests/independent/arithmetic.rs"]
 mod arithmetic;
+#[path = "../tests/independent/degree.rs"]
+#[allow(dead_code)]
+mod degree;
 #[path = "../tests/independent/model.rs"]
 #[allow(dead_code)]
 mod model;
@@ -25,6 +28,7 @@ mod memory;
 mod plain;
 mod plain_proof;
 mod plot;
+mod reject;
 mod stored;
 
 const MODULUS: u32 = 65581;
@@ -122,6 +126,7 @@ fn main() {
     branch::all();
     let f = plain::Field::new(MODULUS);
     let encoding = dimension::all(&f, &basis);
+    reject::all(&basis);
     let corrections = correction::all(&f, &basis);
     stored::all(&f, &basis);
     for (path, charts) in std::env::args().skip(1).zip([&[encoding][..], &corrections]) {

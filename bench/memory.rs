@@ -1,6 +1,6 @@
 //! Memory of the proved calls: the stack that each of them touches, and the largest resident size.
 use crate::file::{file_length, Form};
-use crate::{calls, coefficients, coin_at, correction, model, nearest, LARGE, MODULUS};
+use crate::{calls, coefficients, coin_at, correction, degree, model, nearest, reject, LARGE, MODULUS};
 use std::mem::MaybeUninit;
 
 /// What the stack is painted with, and how many such words.
@@ -54,6 +54,14 @@ fn dimension(basis: &[u16]) -> Vec<(&'static str, usize)> {
     add("decode", &mut || assert_eq!(calls::decode(MODULUS, basis, 0, &w, &mut q, &mut s), 0));
     add("prove", &mut || assert_eq!(calls::prove(MODULUS, basis, 0, &w, &mut pi, &mut s), 0));
     add("check, any coin", &mut || (0..COINS).for_each(|i| assert!(calls::check(MODULUS, basis, 0, &w, &pi, coin_at(k, i)) <= 64)));
+    add("check, coins that reject", &mut || {
+        for coin in (0..COINS).map(|i| coin_at(k, i)) {
+            let at = model::positions(k, coin);
+            reject::add(&mut w, &mut pi, &at[..1], &[1]);
+            assert_eq!(calls::check(MODULUS, basis, 0, &w, &pi, coin), degree::rejected(at.len(), at.len() - 1, at.len().ilog2() as usize));
+            reject::add(&mut w, &mut pi, &at[..1], &[1]);
+        }
+    });
     let (radius, word) = (nearest::radius(n), correction::damaged(&w, nearest::radius(n)));
     add("correct, at the radius", &mut || assert_eq!(calls::correct(MODULUS, basis, 0, &word, &mut near, &mut s), radius as u64));
     assert_eq!((&q, &near), (&p, &w));

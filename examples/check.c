@@ -1,5 +1,6 @@
-/* check FILE COIN: the checker for one coin over a stored file. It prints the answer, and ends with status 0 where the file is
- * accepted at the coin, 1 where it is rejected and 2 where it is refused; with 3 where there is nothing to check. */
+/* check FILE COIN: the checker for one coin over a stored file. It prints the answer, of a reject also the degree of the short
+ * word that the coin reads and its dimension; and ends with status 0 where the file is accepted at the coin, 1 where it is
+ * rejected and 2 where it is refused; with 3 where there is nothing to check. */
 #include <errno.h>
 #include <inttypes.h>
 #include <stdio.h>
@@ -25,7 +26,7 @@ int main(int argc, char **argv)
     uint8_t *bytes;
     size_t length;
     uint64_t coin;
-    uint32_t answer, reads = 0;
+    uint32_t answer, reads = 0, degree = 0, dimension = 0;
 
     if (argc != 3 || !read_coin(argv[2], &coin)) {
         fprintf(stderr, "usage: check FILE COIN\n");
@@ -36,14 +37,14 @@ int main(int argc, char **argv)
         fprintf(stderr, "check: cannot read %s\n", argv[1]);
         return 3;
     }
-    answer = proximity_check_file(bytes, length, coin, &reads);
+    answer = proximity_check_degree(bytes, length, coin, &reads, &degree, &dimension);
     free(bytes);
     if (answer == PROXIMITY_ACCEPT) {
         printf("accepted, %" PRIu32 " symbols read\n", reads);
         return 0;
     }
     if (answer == PROXIMITY_REJECT) {
-        printf("rejected, %" PRIu32 " symbols read\n", reads);
+        printf("rejected, %" PRIu32 " symbols read: degree %" PRIu32 " of %" PRIu32 " dimensions\n", reads, degree, dimension);
         return 1;
     }
     printf("refused %" PRIu32 "\n", answer);

@@ -4,9 +4,9 @@
  * refused by a number. A pointer may be NULL where the length beside it is 0. Both forms are taken, and the first mark of a file
  * tells its form.
  *
- * The calls read the file's bytes alone. They write nothing but *reads, *converted and, where a file is converted, all bytes of
- * `out`. These must not lie among the file's bytes, and a refused call leaves them as they came. The calls take no memory and
- * keep nothing, so that several threads may call at once.
+ * The calls read the file's bytes alone. They write nothing but *reads, *degree, *dimension, *converted and, where a file is
+ * converted, all bytes of `out`. These must not lie among the file's bytes, and a refused call leaves them as they came. The
+ * calls take no memory and keep nothing, so that several threads may call at once.
  *
  * Each call checks the whole file, about 0.17 ms at dimension 12 and 10 ms at dimension 14: make few calls for each file. */
 #ifndef PROXIMITY_H
@@ -20,7 +20,7 @@ extern "C" {
 #endif
 
 /* Goes up where a call or a number is added. */
-#define PROXIMITY_VERSION 3
+#define PROXIMITY_VERSION 4
 
 /* The verdicts. */
 #define PROXIMITY_ACCEPT 0u
@@ -56,6 +56,13 @@ uint32_t proximity_coin_bits(const uint8_t *file, size_t length);
 /* The checker for one coin: PROXIMITY_ACCEPT or PROXIMITY_REJECT, and *reads is the number of symbols read, at most 64; or the
  * number of a refusal (the file's checks, then 8), and *reads is as it came. `reads` must not be NULL. */
 uint32_t proximity_check_file(const uint8_t *file, size_t length, uint64_t coin, uint32_t *reads);
+
+/* The same, with the degree behind a reject. The coin ends at a short word of 2^m symbols, m from 3 to 6, and reads all of them.
+ * On PROXIMITY_REJECT *dimension is m, and *degree the least degree of a polynomial through these symbols, between 2^(m-3) and
+ * 2^m - 1; on PROXIMITY_ACCEPT both are 0. A refusal leaves all three numbers as they came. They must be three places of their
+ * own, and none of `reads`, `degree` and `dimension` may be NULL. */
+uint32_t proximity_check_degree(const uint8_t *file, size_t length, uint64_t coin, uint32_t *reads, uint32_t *degree,
+                                uint32_t *dimension);
 
 /* The length that the file has in the other form: 0, and *converted is that length; or the number of a refusal (the file's
  * checks, then 14), and *converted is as it came. `converted` must not be NULL. */

@@ -35,15 +35,42 @@ static inline uint8_t *copy_of(const uint8_t *bytes, size_t length)
     return file;
 }
 
-/* What the number of reads holds before each call. */
-#define UNREAD 77777u
+/* What the numbers of reads, degree and dimension hold before each call. */
+static const uint32_t unread[3] = {77777, 88888, 99999};
 
-static inline void answers(const char *what, const uint8_t *file, size_t length, uint64_t coin, uint32_t answer, uint32_t symbols)
+/* Both checkers for one coin, without and with the degree, and what is told. */
+static inline void answers(const char *what, const uint8_t *file, size_t length, uint64_t coin, uint32_t answer, const uint32_t told[3])
 {
-    uint32_t reads = UNREAD;
+    uint32_t reads = unread[0], degree = unread[1], dimension = unread[2];
 
     expect(what, proximity_check_file(file, length, coin, &reads), answer);
-    expect(what, reads, symbols);
+    expect(what, reads, told[0]);
+    reads = unread[0];
+    expect(what, proximity_check_degree(file, length, coin, &reads, &degree, &dimension), answer);
+    expect(what, reads, told[0]);
+    expect(what, degree, told[1]);
+    expect(what, dimension, told[2]);
+}
+
+static inline void accepts(const char *what, const uint8_t *file, size_t length, uint64_t coin, uint32_t reads)
+{
+    const uint32_t told[3] = {reads, 0, 0};
+
+    answers(what, file, length, coin, PROXIMITY_ACCEPT, told);
+}
+
+/* A reject at a short word of so many dimensions, which is read whole. */
+static inline void rejects(const char *what, const uint8_t *file, size_t length, uint64_t coin, uint32_t degree, uint32_t dimension)
+{
+    const uint32_t told[3] = {(uint32_t)1 << dimension, degree, dimension};
+
+    answers(what, file, length, coin, PROXIMITY_REJECT, told);
+}
+
+/* A refusal leaves the numbers as they came. */
+static inline void refuses(const char *what, const uint8_t *file, size_t length, uint64_t coin, uint32_t number)
+{
+    answers(what, file, length, coin, number, unread);
 }
 
 /* Every call refuses the file, whatever the coin. */
@@ -53,8 +80,8 @@ static inline void refused(const char *what, const uint8_t *bytes, size_t length
 
     expect(what, proximity_file_refusal(file, length), number);
     expect(what, proximity_coin_bits(file, length), 0);
-    answers(what, file, length, 0, number, UNREAD);
-    answers(what, file, length, UINT64_MAX, number, UNREAD);
+    refuses(what, file, length, 0, number);
+    refuses(what, file, length, UINT64_MAX, number);
     free(file);
 }
 

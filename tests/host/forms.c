@@ -39,11 +39,11 @@ static void accepted_sample(void)
     for (file[13] = 0; file[13] < 8; file[13]++) {
         expect("sample", proximity_file_refusal(file, sizeof sample), 0);
         expect("bits of the sample", proximity_coin_bits(file, sizeof sample), 0);
-        answers("sample", file, sizeof sample, 0, PROXIMITY_ACCEPT, 8);
-        answers("sample at coin 1", file, sizeof sample, 1, PROXIMITY_REFUSED_COIN, UNREAD);
+        accepts("sample", file, sizeof sample, 0, 8);
+        refuses("sample at coin 1", file, sizeof sample, 1, PROXIMITY_REFUSED_COIN);
         for (i = 21; i < 29; i++) {
             file[i] = 6;
-            answers("sample with one 6", file, sizeof sample, 0, PROXIMITY_REJECT, 8);
+            rejects("sample with one 6", file, sizeof sample, 0, 7, 3);
             file[i] = 5;
         }
     }
@@ -114,9 +114,9 @@ static void shifts(void)
     for (i = 0; i < sizeof table / sizeof *table; i++) {
         put(z.shift, table[i], 2);
         z.word[32] = 0;
-        answers("row 4 of zeros", z.file, z.length, 8, PROXIMITY_ACCEPT, 64);
+        accepts("row 4 of zeros", z.file, z.length, 8, 64);
         z.word[32] = 1;
-        answers("row 4 with a 1", z.file, z.length, 8, PROXIMITY_REJECT, 64);
+        rejects("row 4 with a 1", z.file, z.length, 8, 63, 6);
     }
     put(z.shift, 256, 2);
     refused("shift 256 at l = 8", z.file, z.length, PROXIMITY_REFUSED_BASIS_RANGE);

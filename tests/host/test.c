@@ -33,11 +33,11 @@ static void accepted_sample(void)
 
     expect("sample", proximity_file_refusal(file, sizeof sample), 0);
     expect("bits of the sample", proximity_coin_bits(file, sizeof sample), 0);
-    answers("sample", file, sizeof sample, 0, PROXIMITY_ACCEPT, 8);
-    answers("sample at coin 1", file, sizeof sample, 1, PROXIMITY_REFUSED_COIN, UNREAD);
+    accepts("sample", file, sizeof sample, 0, 8);
+    refuses("sample at coin 1", file, sizeof sample, 1, PROXIMITY_REFUSED_COIN);
     for (i = 19; i < 35; i += 2) {
         file[i] = 6;
-        answers("sample with one 6", file, sizeof sample, 0, PROXIMITY_REJECT, 8);
+        rejects("sample with one 6", file, sizeof sample, 0, 7, 3);
         file[i] = 5;
     }
     free(file);
@@ -105,8 +105,8 @@ static void lent_nowhere(void)
 {
     expect("NULL", proximity_file_refusal(NULL, 0), PROXIMITY_REFUSED_CUT);
     expect("bits of NULL", proximity_coin_bits(NULL, 0), 0);
-    answers("NULL", NULL, 0, 0, PROXIMITY_REFUSED_CUT, UNREAD);
-    answers("NULL", NULL, 0, UINT64_MAX, PROXIMITY_REFUSED_CUT, UNREAD);
+    refuses("NULL", NULL, 0, 0, PROXIMITY_REFUSED_CUT);
+    refuses("NULL", NULL, 0, UINT64_MAX, PROXIMITY_REFUSED_CUT);
 }
 
 /* Addresses of every remainder by 8, odd ones among them; the file ends where its allocation does. */
@@ -122,9 +122,9 @@ static void lent_anywhere(void)
         file = room + shift;
         memcpy(file, sample, sizeof sample);
         expect("moved file", proximity_file_refusal(file, sizeof sample), 0);
-        answers("moved file", file, sizeof sample, 0, PROXIMITY_ACCEPT, 8);
+        accepts("moved file", file, sizeof sample, 0, 8);
         file[33] = 6;
-        answers("moved file with one 6", file, sizeof sample, 0, PROXIMITY_REJECT, 8);
+        rejects("moved file with one 6", file, sizeof sample, 0, 7, 3);
         expect("moved file, cut", proximity_file_refusal(file, sizeof sample - 1), PROXIMITY_REFUSED_CUT);
         free(room);
     }
@@ -132,14 +132,21 @@ static void lent_anywhere(void)
 
 /* ---- files of zeros, in both forms */
 
-/* All 64 coins of k = 7: an even one reads a row of 64 symbols, an odd one a column of 16. Bit i of `rejects` is set where coin
- * i rejects. */
-static void all_coins(const char *what, struct zeros z, uint64_t rejects)
+/* All 64 coins of k = 7: an even one reads a row of 64 symbols, an odd one a column of 16. Bit i of `off` is set where coin i
+ * reads the one symbol that is not 0. A polynomial through it and the zeros has as many roots as there are zeros, 63 or 15, and
+ * there is one of that degree. */
+static void all_coins(const char *what, struct zeros z, uint64_t off)
 {
     uint32_t coin;
 
-    for (coin = 0; coin < 64; coin++)
-        answers(what, z.file, z.length, coin, rejects >> coin & 1 ? PROXIMITY_REJECT : PROXIMITY_ACCEPT, coin % 2 ? 16 : 64);
+    for (coin = 0; coin < 64; coin++) {
+        if ((off >> coin & 1) == 0)
+            accepts(what, z.file, z.length, coin, coin % 2 ? 16 : 64);
+        else if (coin % 2)
+            rejects(what, z.file, z.length, coin, 15, 4);
+        else
+            rejects(what, z.file, z.length, coin, 63, 6);
+    }
 }
 
 static uint64_t bit(uint32_t i)
@@ -154,9 +161,9 @@ static void dimension_7(int form)
     expect("k = 7", proximity_file_refusal(z.file, z.length), 0);
     expect("bits at k = 7", proximity_coin_bits(z.file, z.length), 6);
     all_coins("zeros", z, 0);
-    answers("coin 64", z.file, z.length, 64, PROXIMITY_REFUSED_COIN, UNREAD);
-    answers("coin 2^32", z.file, z.length, bit(32), PROXIMITY_REFUSED_COIN, UNREAD);
-    answers("coin 2^63", z.file, z.length, bit(63), PROXIMITY_REFUSED_COIN, UNREAD);
+    refuses("coin 64", z.file, z.length, 64, PROXIMITY_REFUSED_COIN);
+    refuses("coin 2^32", z.file, z.length, bit(32), PROXIMITY_REFUSED_COIN);
+    refuses("coin 2^63", z.file, z.length, bit(63), PROXIMITY_REFUSED_COIN);
 
     /* position 0 of the proof is position 8 of row 0, which coins 0 and 32 take, and lies in column 8 */
     z.proof[0] = 1;
@@ -206,9 +213,9 @@ static void dimensions(int form)
 
         expect("dimension", proximity_file_refusal(z.file, z.length), 0);
         expect("coin bits", proximity_coin_bits(z.file, z.length), table[i].bits);
-        answers("coin 0", z.file, z.length, 0, PROXIMITY_ACCEPT, 64);
-        answers("last coin", z.file, z.length, bit(table[i].bits) - 1, PROXIMITY_ACCEPT, table[i].column);
-        answers("coin past the last", z.file, z.length, bit(table[i].bits), PROXIMITY_REFUSED_COIN, UNREAD);
+        accepts("coin 0", z.file, z.length, 0, 64);
+        accepts("last coin", z.file, z.length, bit(table[i].bits) - 1, table[i].column);
+        refuses("coin past the last", z.file, z.length, bit(table[i].bits), PROXIMITY_REFUSED_COIN);
         free(z.file);
     }
 }

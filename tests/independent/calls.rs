@@ -24,6 +24,7 @@ mod raw {
         pub fn proximity_file_refusal(file: *const u8, n: usize) -> u32;
         pub fn proximity_coin_bits(file: *const u8, n: usize) -> u32;
         pub fn proximity_check_file(file: *const u8, n: usize, coin: u64, reads: *mut u32) -> u32;
+        pub fn proximity_check_degree(file: *const u8, n: usize, coin: u64, reads: *mut u32, degree: *mut u32, dimension: *mut u32) -> u32;
     }
 }
 
@@ -140,12 +141,19 @@ pub fn coin_bits(file: &[u8]) -> u32 {
     unsafe { raw::proximity_coin_bits(file.as_ptr(), file.len()) }
 }
 
-/// What the number of reads holds before a call.
-pub const UNREAD: u32 = 77777;
+/// What reads, degree and dimension hold before a call.
+pub const UNREAD: [u32; 3] = [77777, 88888, 99999];
 
 /// The answer and the number of reads.
 pub fn check_file(file: &[u8], coin: u64) -> (u32, u32) {
-    let mut reads = UNREAD;
+    let mut reads = UNREAD[0];
     let answer = unsafe { raw::proximity_check_file(file.as_ptr(), file.len(), coin, &mut reads) };
     (answer, reads)
+}
+
+/// The answer, and the numbers of reads, degree and dimension, which hold the given ones before the call.
+pub fn check_degree(file: &[u8], coin: u64, before: [u32; 3]) -> (u32, [u32; 3]) {
+    let [mut reads, mut degree, mut dimension] = before;
+    let answer = unsafe { raw::proximity_check_degree(file.as_ptr(), file.len(), coin, &mut reads, &mut degree, &mut dimension) };
+    (answer, [reads, degree, dimension])
 }

@@ -6,7 +6,7 @@ use crate::largest::{bytes, gives, read_place, stored, whole, Call, Delivery};
 use crate::lazy::{ends, Lazy};
 use crate::shifts::moved;
 use crate::symbols::Pair;
-use crate::{calls, model, setting_of, Draw, Met, Setting, Shifts, Tally};
+use crate::{calls, degree, model, setting_of, Draw, Met, Setting, Shifts, Tally};
 
 /// How a coin begins: its name, whether it takes a column, whether it takes a column then, and how many symbols it can read.
 type Walk = (&'static str, [bool; 2], &'static [usize]);
@@ -38,6 +38,11 @@ fn proved(t: &mut Tally, name: &str, d: &mut Draw, s: &Setting, w: &[u16], lazy:
     proof
 }
 
+/// The answer where one of so many symbols of a codeword is changed: the difference is 0 at all other elements, so its degree is the highest.
+fn one_off(reads: usize) -> u64 {
+    degree::rejected(reads, reads - 1, reads.ilog2() as usize)
+}
+
 /// The checker at coins of each walk. All that a coin reads is the model's. Then a symbol that it reads is changed, and is out of range where
 /// there are such numbers; and at last all that it does not read is.
 fn walks(t: &mut Tally, name: &str, d: &mut Draw, x: &mut Pair, lazy: &mut Lazy) {
@@ -56,7 +61,7 @@ fn walks(t: &mut Tally, name: &str, d: &mut Draw, x: &mut Pair, lazy: &mut Lazy)
 
             let kept = x.at(at);
             x.swap(at, kept ^ (1 + d.below((1 << l) - 1)) as u16);
-            wrong += u64::from(!right(x, 65536 + accept));
+            wrong += u64::from(!right(x, one_off(read.len())));
             if l < 16 {
                 x.swap(at, kept | 1 << (l + d.below(16 - l as u64) as u32));
                 wrong += u64::from(!right(x, 131072 + 9));

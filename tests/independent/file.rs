@@ -1,5 +1,5 @@
 //! The stored file in its two forms, written from documents 01 and 02: slow and direct.
-use crate::model::{coin_bits, degree, irreducible, independent, positions, proof_length, LARGEST};
+use crate::model::{coin_bits, degree, irreducible, independent, is_codeword, positions, proof_length, short_word, LARGEST};
 use crate::nearest::{differences, nearest};
 
 /// The most bytes of a file that a program takes.
@@ -213,7 +213,11 @@ pub fn read_message(bytes: &[u8], room: usize) -> Result<Message, u32> {
 pub fn coin_numbers(f: &File) -> [u64; 4] {
     let k = f.basis.len();
     let coins = 1u64 << coin_bits(k);
-    let rejects = (0..coins).filter(|c| crate::model::check(f.modulus, &f.basis, f.shift, &f.word, &f.proof, *c) >> 16 == 1).count();
+    let rejects = |coin: u64| {
+        let (basis, read) = short_word(f.modulus, &f.basis, f.shift, &f.word, &f.proof, coin).expect("the file is accepted");
+        !is_codeword(f.modulus, &basis, 0, &read)
+    };
+    let rejects = (0..coins).filter(|c| rejects(*c)).count();
     let most = (0..coins).map(|c| positions(k, c).len()).max().unwrap_or(0);
     [k as u64, coins, rejects as u64, most as u64]
 }

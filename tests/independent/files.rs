@@ -1,7 +1,7 @@
 //! Stored files: the proved reader and checker beside the independent model.
 use crate::file::Form;
 use crate::shifts::proof_at;
-use crate::{calls, damage, file, model, Draw, Met, Setting, Shifts, Tally};
+use crate::{calls, damage, degree, file, model, Draw, Met, Setting, Shifts, Tally};
 
 /// A good setting of dimension k, and the coefficients, the word and the proof of a polynomial, to be stored in a form.
 pub struct Delivery {
@@ -32,17 +32,20 @@ pub fn bytes(x: &Delivery) -> Vec<u8> {
     file::bytes_of(x.form, x.s.m, &x.s.b, x.s.shift, &x.w, &x.proof)
 }
 
-/// Whether reader and checker answer as the model; a refused call leaves the number of reads as it came. The answer goes into the table.
+/// Whether both checkers from C, without and with the degree, give this answer; a refused call leaves the numbers as they came.
+pub fn answers(f: &[u8], coin: u64, code: u64) -> bool {
+    let (answer, numbers) = degree::host_answer(code, calls::UNREAD);
+    calls::check_file(f, coin) == (answer, numbers[0]) && calls::check_degree(f, coin, calls::UNREAD) == (answer, numbers)
+}
+
+/// Whether reader and checkers answer as the model. The answer goes into the table.
 pub fn same(f: &[u8], coin: u64, met: &mut Met) -> bool {
-    let (number, bits, answer) = match file::read(f) {
-        Err(n) => (n, 0, (n, calls::UNREAD)),
-        Ok(x) => {
-            let v = model::check(x.modulus, &x.basis, x.shift, &x.word, &x.proof, coin);
-            (0, model::coin_bits(x.basis.len()), model::host_answer(v, calls::UNREAD))
-        }
+    let (number, bits, code) = match file::read(f) {
+        Err(n) => (n, 0, 131072 + n as u64),
+        Ok(x) => (0, model::coin_bits(x.basis.len()), model::check(x.modulus, &x.basis, x.shift, &x.word, &x.proof, coin)),
     };
-    met.add(answer.0);
-    (calls::file_refusal(f), calls::coin_bits(f), calls::check_file(f, coin)) == (number, bits, answer)
+    met.add(degree::host_answer(code, calls::UNREAD).0);
+    (calls::file_refusal(f), calls::coin_bits(f)) == (number, bits) && answers(f, coin, code) && degree::possible(code)
 }
 
 /// Files of a form that are cut at every length, by a comparison that puts its answer into the table. Each cut is a list of its own, of

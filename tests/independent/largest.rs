@@ -2,10 +2,10 @@
 //! the shift is 0, else form 2.
 use crate::codec::left;
 use crate::file::Form;
-use crate::files::coded;
+use crate::files::{answers, coded};
 use crate::shifts::proof_at;
 use crate::symbols::Pair;
-use crate::{calls, file, model, Draw, Met, Shifts, Tally};
+use crate::{calls, degree, file, model, Draw, Met, Shifts, Tally};
 
 pub struct Delivery {
     pub k: usize,
@@ -134,9 +134,9 @@ pub fn bytes(t: &mut Tally, name: &str, form: Form, d: &mut Draw, y: &mut Delive
         } else {
             f[place.clone()].copy_from_slice(&symbol.to_le_bytes()[..place.len()]);
         }
-        let right = model::host_answer(model::check(y.x.s.m, &y.x.s.b, y.x.s.shift, &y.x.w, &y.x.proof, coin), calls::UNREAD);
-        wrong += u64::from(calls::check_file(&f, coin) != right);
-        met.add(right.0);
+        let right = model::check(y.x.s.m, &y.x.s.b, y.x.s.shift, &y.x.w, &y.x.proof, coin);
+        wrong += u64::from(!answers(&f, coin, right));
+        met.add(degree::host_answer(right, calls::UNREAD).0);
         y.x.swap(at, kept);
         f[place.clone()].copy_from_slice(&kept.to_le_bytes()[..place.len()]);
     }

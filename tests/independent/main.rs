@@ -6,6 +6,8 @@ mod columns;
 mod convert;
 mod correction;
 mod counter;
+mod degree;
+mod degrees;
 mod entries;
 mod file;
 mod files;
@@ -169,6 +171,7 @@ fn main() {
     columns::all(&mut t);
     limits::all(&mut t);
     shifts::all(&mut t);
+    degrees::all(&mut t);
     for form in [Form::One, Form::Two] {
         files::all(&mut t, form);
     }

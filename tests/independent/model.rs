@@ -1,6 +1,7 @@
 //! Field, word, proof and verdict, written from documents 000, 01 and 02: slow and direct, without tables.
 
 pub use crate::arithmetic::{degree, inverse, irreducible, mul};
+use crate::degree::{least_degree, rejected};
 
 pub const LARGEST: usize = 14;
 
@@ -258,34 +259,34 @@ pub fn leaf_basis(m: u32, basis: &[u16], coin: u64) -> Vec<u16> {
     }
 }
 
-/// The answer of the checker as exports codes it: rows and columns have no shift.
-pub fn check(m: u32, basis: &[u16], shift: u16, word: &[u16], proof: &[u16], coin: u64) -> u64 {
+/// The space at which a coin ends and the symbols that it reads, or the number of a refusal: rows and columns have no shift.
+pub fn short_word(m: u32, basis: &[u16], shift: u16, word: &[u16], proof: &[u16], coin: u64) -> Result<(Vec<u16>, Vec<u16>), u32> {
     let n = setting(m, basis, shift);
     if n != 0 {
-        return 131072 + n as u64;
+        return Err(n);
     }
     let k = basis.len();
     if word.len() != 1 << k || proof.len() != proof_length(k) {
-        return 131072 + 6;
+        return Err(6);
     }
     if coin >> coin_bits(k) != 0 {
-        return 131072 + 8;
+        return Err(8);
     }
     let read: Vec<u16> = positions(k, coin).into_iter().map(|p| match p {
         Place::Word(i) => word[i],
         Place::Proof(i) => proof[i],
     }).collect();
     if read.iter().any(|x| (*x as u32) >> degree(m) != 0) {
-        return 131072 + 9;
+        return Err(9);
     }
-    read.len() as u64 + if is_codeword(m, &leaf_basis(m, basis, coin), 0, &read) { 0 } else { 65536 }
+    Ok((leaf_basis(m, basis, coin), read))
 }
 
-/// The same as the host kit's answer and reads: 0 or 100, or the number of a refusal, which leaves the reads as they were.
-pub fn host_answer(v: u64, unread: u32) -> (u32, u32) {
-    match v >> 16 {
-        0 => (0, v as u32),
-        1 => (100, v as u32 & 65535),
-        _ => (v as u32 & 65535, unread),
+/// The answer of the checker as exports codes it.
+pub fn check(m: u32, basis: &[u16], shift: u16, word: &[u16], proof: &[u16], coin: u64) -> u64 {
+    match short_word(m, basis, shift, word, proof, coin) {
+        Err(n) => 131072 + n as u64,
+        Ok((leaf, read)) if is_codeword(m, &leaf, 0, &read) => read.len() as u64,
+        Ok((leaf, read)) => rejected(read.len(), least_degree(m, &leaf, &read), leaf.len()),
     }
 }

@@ -1,6 +1,6 @@
 //! The calls on symbols without scratch: field, setting and checker.
 use crate::shifts::proof_at;
-use crate::{calls, damage, model, modulus, outside, Draw, Met, Setting, Shifts, Tally};
+use crate::{calls, damage, degree, model, modulus, outside, Draw, Met, Setting, Shifts, Tally};
 
 fn moduli(t: &mut Tally) {
     let (mut wrong, mut met) = (0, Met::default());
@@ -103,11 +103,11 @@ impl Pair {
     pub fn check(&self, coin: u64) -> u64 {
         calls::check(self.s.m, &self.s.b, self.s.shift, &self.w, &self.proof, coin)
     }
-    /// Whether the checker answers as the model; the answer goes into the table.
+    /// Whether the checker answers as the model, and as a checker can; the answer goes into the table.
     pub fn same(&self, coin: u64, met: &mut Met) -> bool {
         let v = model::check(self.s.m, &self.s.b, self.s.shift, &self.w, &self.proof, coin);
-        met.add(model::host_answer(v, 0).0);
-        self.check(coin) == v
+        met.add(degree::host_answer(v, calls::UNREAD).0);
+        self.check(coin) == v && degree::possible(v)
     }
 }
 
@@ -175,10 +175,10 @@ fn refusals(t: &mut Tally, shifts: Shifts) {
     t.answers(&shifts.name("refusals of the checker"), wrong, &met, &[0, 1, 2, 3, 4, 5, 6, 8, 9, 100]);
 }
 
-/// The bench cases of document 01 that are not proved, at k = 7.
+/// The bench cases of document 01 that are not proved, at k = 7, and the degree of one symbol among zeros.
 fn bench_cases(t: &mut Tally) {
     let b: Vec<u16> = (0..7).map(|i| 1 << i).collect();
-    let rejects = |w: &[u16], p: &[u16]| (0..64).filter(|c| calls::check(283, &b, 0, w, p, *c) >> 16 == 1).count();
+    let rejects = |w: &[u16], p: &[u16]| (0..64).filter(|c| calls::check(283, &b, 0, w, p, *c) >> 16 & 65535 == 1).count();
     let (w, p) = (vec![0u16; 128], vec![0u16; 896]);
     let (mut v, mut q) = (w.clone(), p.clone());
     (q[0], v[32]) = (1, 1);
@@ -186,12 +186,15 @@ fn bench_cases(t: &mut Tally) {
         rejects(&w, &p) == 0,
         rejects(&w, &q) == 3,
         rejects(&v, &p) == 2,
-        calls::check(283, &b, 0, &w, &p, 63) >> 17 == 0,
+        calls::check(283, &b, 0, &w, &q, 32) == degree::rejected(64, 63, 6),
+        calls::check(283, &b, 0, &w, &q, 17) == degree::rejected(16, 15, 4),
+        calls::check(283, &b, 0, &v, &p, 8) == degree::rejected(64, 63, 6),
+        calls::check(283, &b, 0, &w, &p, 63) == 16,
         calls::check(283, &b, 0, &w, &p, 64) == 131072 + 8,
         calls::check(283, &b[..6], 0, &w[..64], &[], 0) == 64,
         calls::check(283, &b[..6], 0, &w[..64], &[], 1) == 131072 + 8,
     ];
-    t.group("bench cases at k = 6 and 7", right.iter().filter(|x| !**x).count() as u64, 7);
+    t.group("bench cases at k = 6 and 7", right.iter().filter(|x| !**x).count() as u64, 10);
 }
 
 pub fn all(t: &mut Tally) {

@@ -1,6 +1,6 @@
 /* What the checker reads. All symbols of word and proof are closed to valgrind but those at the coin's positions, so that a read of
  * any other is an error; and where one of these is closed too, there must be an error. Zeros are a codeword, and their proof is
- * zeros. */
+ * zeros; with one symbol that is not 0 among the positions the coin rejects, and the degree is the highest that they can have. */
 #include <valgrind/memcheck.h>
 
 #include "../host/expect.h"
@@ -52,18 +52,29 @@ static void close_symbol(uint16_t *at)
     (void)VALGRIND_MAKE_MEM_NOACCESS(at, sizeof *at);
 }
 
-/* The errors of one call. The coin must be accepted, with so many symbols read. */
-static uint32_t errors_at(const char *what, const struct delivery *x, uint64_t coin, size_t count)
+/* The errors of one call, which must give this answer: the number of reads where the coin accepts. */
+static uint32_t errors_at(const char *what, const struct delivery *x, uint64_t coin, uint64_t right)
 {
     unsigned before = VALGRIND_COUNT_ERRORS;
     uint64_t answer = proximity_check(65581, x->basis, x->k, 0, x->word, x->words, x->proof, x->proofs, coin);
     unsigned after = VALGRIND_COUNT_ERRORS;
 
-    expect(what, answer == count, 1);
+    expect(what, answer == right, 1);
     return after - before;
 }
 
-/* The checker at one coin: it reads nothing beside the positions and, where `each` is set, it reads each of them. */
+/* The answer of a reject with so many reads, of which one is not 0. */
+static uint64_t one_of(size_t count)
+{
+    uint64_t dimension = 0;
+
+    while ((size_t)1 << dimension < count)
+        dimension++;
+    return 65536 + count + ((uint64_t)(count - 1) << 32) + (dimension << 48);
+}
+
+/* The checker at one coin: it reads nothing beside the positions, whether it accepts or rejects, and, where `each` is set, it reads
+ * each of them. */
 static void check(const char *what, const struct delivery *x, uint64_t coin, int each)
 {
     struct place found[MOST];
@@ -72,6 +83,11 @@ static void check(const char *what, const struct delivery *x, uint64_t coin, int
     for (i = 0; i < count; i++)
         open_symbol(symbol(x, found[i]));
     expect(what, errors_at(what, x, coin, count), 0);
+    for (i = 0; i < count; i += count - 1) {
+        *symbol(x, found[i]) = 1;
+        expect(what, errors_at(what, x, coin, one_of(count)), 0);
+        *symbol(x, found[i]) = 0;
+    }
     for (i = 0; each && i < count; i++) {
         close_symbol(symbol(x, found[i]));
         expect(what, errors_at(what, x, coin, count) > 0, 1);

@@ -69,7 +69,7 @@ module _ (f : List ℕ) (r : Reading) (a : Readable f r) where
           basis = basisIn f;
           ready = set;
           whole = ap length e ∙ length-numbers (r .narrow) f (r .word) (2 ^ k);
-          symbols = subst (Below (2 ^ degree (r .setting .field .modulus))) (sym e) (read-below f r (a .0) (a .1) .0);
+          symbols = subst (Below (2 ^ degree (r .setting .field .modulus))) (sym e) (read-below f r (a .0) (a .1));
         }
 
     -- how far it is off

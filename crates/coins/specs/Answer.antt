@@ -15,13 +15,13 @@ use Rattle.field.specs.Symbols.{symbols}
 use Rattle.poly.specs.Codeword.{Basis}
 use Rattle.space.specs.Sound.{sound-field}
 use Rattle.proximity.specs.Dim.{dim, S, R}
-use Rattle.proximity.specs.Verdict.{verdict}
-use Rattle.proximity.specs.Verifier.{Accepts, positions}
+use Rattle.proximity.specs.Verdict.{verdict, degree-exists}
+use Rattle.proximity.specs.Verifier.{Accepts, positions, leafDim}
 use Rattle.verifier.specs.Checker.{symbolsAt, readsOf}
 use Rattle.stored.specs.Accepted.{Accepted, accepted, told-refuses}
 use Rattle.stored.specs.CheckLaws.{coin-passes}
 use Rattle.stored.specs.File.{fileLimit, wordStart, proofStart, formIn, modulusIn, degreeIn, dimIn, basisIn, narrowIn, wordIn, proofIn}
-use Rattle.stored.specs.Leaf.{symbols-below}
+use Rattle.stored.specs.InRange.{symbols-below}
 use Rattle.stored.specs.Packed.{length-numbers}
 use Rattle.stored.specs.Passed.{length-basis}
 use Rattle.stored.specs.Reader.{fileChecks}
@@ -85,30 +85,41 @@ module _ (f : List ℕ) where
     basis : Basis K (dimIn f) (basisIn f)
     basis = subst (λ (k : ℕ). Basis K k (basisIn f)) (length-basis f) (held .records .setting .basis)
 
-    -- acceptance is decided
-    accepts-stable : (coin : ℕ) → ((Accepts K (dim (dimIn f)) (basisIn f) (wordIn f) (proofIn f) coin → ⊥) → ⊥) → Accepts K (dim (dimIn f)) (basisIn f) (wordIn f) (proofIn f) coin
+    -- the symbols that a coin reads
+    proof-length : length (proofIn f) ≡ S (dimIn f)
+    unfolding proofIn
+    proof-length = length-numbers (narrowIn f) f (proofStart (formIn f) (degreeIn f) (dimIn f)) (S (dimIn f))
+
+    word-long : length (wordIn f) ≡ 2 ^ dimIn f
+    word-long = word-length ∙ ap (λ (k : ℕ). 2 ^ k) (length-basis f)
+
+    read-below : (coin : ℕ) → Below (2 ^ degreeIn f) (symbolsAt (dimIn f) (wordIn f) (proofIn f) coin)
     unfolding wordIn proofIn
+    read-below coin =
+        symbols-below (2 ^ degreeIn f) (wordIn f) (proofIn f) (pow-pos (degreeIn f)) (held .records .word .symbols) (held .records .proof .symbols)
+        (positions (dim (dimIn f)) coin)
+
+    abbrev AcceptsAt : ℕ → Type 0
+    AcceptsAt coin = Accepts K (dim (dimIn f)) (basisIn f) (wordIn f) (proofIn f) coin
+
+    -- acceptance is decided
+    accepts-stable : (coin : ℕ) → ((AcceptsAt coin → ⊥) → ⊥) → AcceptsAt coin
     accepts-stable coin =
         equation-stable
-        (verdict field (dim (dimIn f)) (basisIn f) (wordIn f) (proofIn f) basis (word-length ∙ ap (λ (k : ℕ). 2 ^ k) (length-basis f)) proof-length coin
-        (λ i h. All-at (λ (x : ℕ). x < 2 ^ degreeIn f) (symbolsAt (dimIn f) (wordIn f) (proofIn f) coin) 0 read-below (pow-pos (degreeIn f)) i))
-      where
-        proof-length : length (proofIn f) ≡ S (dimIn f)
-        proof-length = length-numbers (narrowIn f) f (proofStart (formIn f) (degreeIn f) (dimIn f)) (S (dimIn f))
+        (verdict field (dim (dimIn f)) (basisIn f) (wordIn f) (proofIn f) basis word-long proof-length coin
+        (λ i h. All-at (λ (x : ℕ). x < 2 ^ degreeIn f) (symbolsAt (dimIn f) (wordIn f) (proofIn f) coin) 0 (read-below coin) (pow-pos (degreeIn f)) i))
 
-        read-below : Below (2 ^ degreeIn f) (symbolsAt (dimIn f) (wordIn f) (proofIn f) coin)
-        read-below =
-            symbols-below (2 ^ degreeIn f) (wordIn f) (proofIn f) (pow-pos (degreeIn f)) (held .records .word .symbols) (held .records .proof .symbols)
-            (positions (dim (dimIn f)) coin)
+    -- a coin that does not accept is answered by a reject
+    rejected : (coin : ℕ) → coin < 2 ^ R (dimIn f) → (AcceptsAt coin → ⊥) → Rejects f coin
+    rejected coin h n =
+        let (g, l) = degree-exists field (dim (dimIn f)) (basisIn f) (wordIn f) (proofIn f) basis word-long proof-length coin (read-below coin) n in
+        (record { reads = readsOf (dimIn f) coin; degree = g; dimension = leafDim (dim (dimIn f)) coin }, (coin-passes f coin p h, refl, n, l, refl))
 
     -- no coin rejects exactly when every coin accepts
-    pub rejects-none : {c : ℕ} → Counted (Rejects f) (2 ^ R (dimIn f)) c
-        → (c ≡ 0) ↔ ((coin : ℕ) → coin < 2 ^ R (dimIn f) → Accepts K (dim (dimIn f)) (basisIn f) (wordIn f) (proofIn f) coin)
+    pub rejects-none : {c : ℕ} → Counted (Rejects f) (2 ^ R (dimIn f)) c → (c ≡ 0) ↔ ((coin : ℕ) → coin < 2 ^ R (dimIn f) → AcceptsAt coin)
     rejects-none a =
-        let none = counted-none (Rejects f) (2 ^ R (dimIn f)) a in (
-          (λ z coin h. accepts-stable coin (λ n. none .0 z coin h (readsOf (dimIn f) coin, (coin-passes f coin p h, refl, n)))),
-          λ g. none .1 (λ coin h (n, (q, e, s)). s (g coin h)),
-        )
+        let none = counted-none (Rejects f) (2 ^ R (dimIn f)) a in
+        ((λ z coin h. accepts-stable coin (λ n. none .0 z coin h (rejected coin h n))), λ g. none .1 (λ coin h (r, (q, e, s, l, d)). s (g coin h)))
 
 -- ---- the answer is one
 

@@ -1,24 +1,18 @@
 -- The verdicts at all coins, one after the other. Assumes nothing.
-use mathlib.Core.Path.{_≡_, refl, sym, ap, _∙_, subst}
+use mathlib.Core.Path.{_≡_, sym, ap, _∙_, subst}
 use mathlib.Core.Logic.{inl, inr}
 use mathlib.Core.List.{List}
 use Prim.Native.Nat.{ℕ, suc, _+_, _^_, _<_, max}
 use native.Mathlib.Numerals.{add-one}
 use native.Mathlib.Omega.{arith}
-use lib.Pow.{pow-pos}
-use Rattle.lists.specs.All.{Below}
-use Rattle.lists.specs.Answers.{Passes, answers-one, not-refused}
-use Rattle.field.specs.Binary.{degree}
-use Rattle.field.specs.Symbols.{symbols}
-use Rattle.proximity.specs.Dim.{dim, R}
-use Rattle.proximity.specs.Verifier.{positions}
-use Rattle.verifier.specs.Checker.{readsOf, readChecks, OnCoin}
+use Rattle.lists.specs.Answers.{Passes, not-refused}
+use Rattle.proximity.specs.Dim.{R}
+use Rattle.verifier.specs.Checker.{readsOf}
 use Rattle.verifier.specs.declared.Verdict.{Verdict}
 use Rattle.verifier.specs.declared.Verdict.the-variants.{Accept, Reject, Refused}
-use Rattle.stored.specs.Check.{coinChecks, AnsweredFile, Judged}
+use Rattle.stored.specs.Check.{coinChecks, AnsweredFile}
 use Rattle.stored.specs.CheckLaws.{coin-passes}
 use Rattle.stored.specs.File.{dimIn}
-use Rattle.stored.specs.Leaf.{symbols-below}
 use Rattle.stored.specs.Reader.{fileChecks}
 use Rattle.stored.specs.declared.Reading.{Reading}
 use Rattle.coins.specs.Counted.{Counted}
@@ -27,33 +21,23 @@ use Rattle.coins.specs.Totals.{Rejects, mostOf}
 -- 1 for a rejection, else 0
 abbrev pub rejectsIn : Verdict → ℕ
 rejectsIn (Accept n) = 0
-rejectsIn (Reject n) = 1
+rejectsIn (Reject r) = 1
 rejectsIn (Refused n) = 0
 
 -- the symbols read
 abbrev pub readsIn : Verdict → ℕ
 readsIn (Accept n) = n
-readsIn (Reject n) = n
+readsIn (Reject r) = r .reads
 readsIn (Refused n) = 0
 
 -- r is what the reader tells of the file f, which it accepts
 abbrev pub Readable : List ℕ → Reading → Type 0
 Readable f r = Rattle.stored.specs.Reader.Told (fileChecks f) f r × (r .refusal ≡ 0)
 
--- where all symbols are in range the verdict is no refusal
-module _ (m k : ℕ) (b w π : List ℕ) (coin : ℕ) (hw : Below (2 ^ degree m) w) (hp : Below (2 ^ degree m) π) where
-  in-range : Passes (readChecks (symbols m) k w π coin)
-  in-range = inr ((λ n. n (symbols-below (2 ^ degree m) w π (pow-pos (degree m)) hw hp (positions (dim k) coin))), refl)
-
-  pub judged : (v : Verdict) → OnCoin (symbols m) k b w π coin v → Judged (symbols m) k b w π coin v
-  judged (Accept n) (p, e, a) = (e, a)
-  judged (Reject n) (p, e, a) = (e, a)
-  judged (Refused n) (l, a) = omega (arith, answers-one (readChecks (symbols m) k w π coin) in-range a)
-
 module _ (f : List ℕ) (p : Passes (fileChecks f)) (coin : ℕ) (h : coin < 2 ^ R (dimIn f)) where
   next : (v : Verdict) → AnsweredFile f coin v → (c : ℕ) → Counted (Rejects f) coin c → Counted (Rejects f) (suc coin) (c + rejectsIn v)
-  next (Accept n) (q, e, a) c t = subst (Counted (Rejects f) (suc coin)) {x = c} {y = c + 0} (omega arith) (inr ((λ (m, (s, g, b)). b a), t))
-  next (Reject n) a c t = inl (c, (n, a), omega arith, t)
+  next (Accept n) (q, e, a) c t = subst (Counted (Rejects f) (suc coin)) {x = c} {y = c + 0} (omega arith) (inr ((λ (r, (s, g, b, l, d)). b a), t))
+  next (Reject r) a c t = inl (c, (r, a), omega arith, t)
   next (Refused n) a c t = absurd (not-refused (coinChecks f coin) (coin-passes f coin p h) a)
 
   -- one more coin
@@ -62,7 +46,7 @@ module _ (f : List ℕ) (p : Passes (fileChecks f)) (coin : ℕ) (h : coin < 2 ^
 
   reads-verdict : (v : Verdict) → AnsweredFile f coin v → readsIn v ≡ readsOf (dimIn f) coin
   reads-verdict (Accept n) (q, e, a) = e
-  reads-verdict (Reject n) (q, e, a) = e
+  reads-verdict (Reject r) (q, e, a, g, d) = e
   reads-verdict (Refused n) a = absurd (not-refused (coinChecks f coin) (coin-passes f coin p h) a)
 
   pub most-verdict : (v : Verdict) → AnsweredFile f coin v → max (mostOf coin (readsOf (dimIn f))) (readsIn v) ≡ mostOf (coin + 1) (readsOf (dimIn f))

@@ -10,6 +10,7 @@ use Rattle.correction.specs.Differences.{differences}
 use Rattle.correction.specs.Near.{NoneNear}
 use Rattle.proximity.specs.Dim.{R}
 use Rattle.verifier.specs.Checker.{readsOf}
+use Rattle.verifier.specs.declared.Rejection.{Rejection}
 use Rattle.verifier.specs.declared.Verdict.the-variants.{Reject}
 use Rattle.stored.specs.Check.{AnsweredFile}
 use Rattle.stored.specs.File.{fileLimit, modulusIn, dimIn, basisIn, wordIn}
@@ -23,7 +24,7 @@ use Rattle.coins.specs.declared.Distance.the-variants.{Near, Far}
 
 -- the checker's answer on the file at this coin is reject
 abbrev pub Rejects : List ℕ → ℕ → Type 0
-Rejects f coin = (n : ℕ) × AnsweredFile f coin (Reject n)
+Rejects f coin = (r : Rejection) × AnsweredFile f coin (Reject r)
 
 -- the largest of g 0 to g (n - 1), and 0 where n is 0
 abbrev pub mostOf : ℕ → (ℕ → ℕ) → ℕ

@@ -29,7 +29,7 @@ fn reads(v: Verdict) -> usize
 {
     match v {
         Verdict::Accept(n) => n,
-        Verdict::Reject(n) => n,
+        Verdict::Reject(r) => r.reads,
         Verdict::Refused(_) => 0,
     }
 }

@@ -24,7 +24,7 @@ use Rattle.space.specs.Ready.{Ready}
 use Rattle.space.specs.declared.Setting.{Setting}
 use Rattle.space.specs.Usable.{usable, ready-field}
 use Rattle.novel.specs.Settings.{stepped, steps-of}
-use Rattle.correction.specs.Coefficients.{coeff, Low, low-length, eval-coeff}
+use Rattle.poly.specs.Coefficients.{coeff, Low, low-length, eval-coeff}
 use Rattle.correction.specs.Candidate.{Loaded, Beginning, Begun, Prepared}
 use Rattle.correction.specs.Scratch.{scratchWords}
 use Rattle.correction.specs.Pairs.{polyAt, Pairs}

@@ -13,7 +13,7 @@ use Rattle.field.specs.Binary.{_⊕_, degree, product, Irreducible}
 use Rattle.field.specs.Laws.{IsField}
 use Rattle.field.specs.Symbols.{symbols, symbols-field}
 use Rattle.field.specs.declared.Field.{Field}
-use Rattle.correction.specs.Coefficients.{coeff}
+use Rattle.poly.specs.Coefficients.{coeff}
 use Rattle.correction.specs.Division.{Dividing, Step, dividing-start, dividing-next}
 use Rattle.correction.specs.Pairs.{polyAt}
 use Rattle.correction.specs.Quotient.{Divides, DividedStep, FactorOf, Divided}

@@ -16,7 +16,7 @@ use Rattle.poly.specs.Blocks.{eighths}
 use Rattle.space.specs.Ready.{Ready}
 use Rattle.space.specs.declared.Setting.{Setting}
 use Rattle.space.specs.Usable.{usable, ready-field, ready-basis}
-use Rattle.correction.specs.Coefficients.{coeff}
+use Rattle.poly.specs.Coefficients.{coeff}
 use Rattle.correction.specs.Near.{radius, NearPoly}
 use Rattle.correction.specs.Candidate.{Prepared, Found}
 use Rattle.correction.specs.Pairs.{polyAt, Pairs, Advanced}

@@ -12,7 +12,7 @@ use Rattle.lists.specs.Stretch.{Apart, stretch, length-stretch, getD-stretch}
 use Rattle.field.specs.Binary.{Irreducible}
 use Rattle.field.specs.Laws.{Ops, IsField, ⊕-0, ⊗-0, ⊗-1}
 use Rattle.field.specs.Symbols.{symbols, symbols-field}
-use Rattle.correction.specs.Coefficients.{coeff, Low, timesPower, Mixed, low-length, coeff-times-power-below, coeff-times-power-at}
+use Rattle.poly.specs.Coefficients.{coeff, Low, timesPower, Mixed, low-length, coeff-times-power-below, coeff-times-power-at}
 use Rattle.field.specs.declared.Field.{Field}
 use Rattle.correction.specs.Pairs.{polyAt, AddedPair, Places, Cancels}
 use Rattle.correction.specs.Rows.{Added}

@@ -9,7 +9,7 @@ use Rattle.field.specs.Binary.{degree, product}
 use Rattle.field.specs.Laws.{Ops, IsField}
 use Rattle.field.specs.Symbols.{symbols, symbols-field}
 use Rattle.field.specs.declared.Field.{Field}
-use Rattle.correction.specs.Coefficients.{coeff, low-le}
+use Rattle.poly.specs.Coefficients.{coeff, low-le}
 use Rattle.correction.specs.Remainders.{Remainders, skip, reduce, turn}
 use Rattle.correction.specs.Pairs.{polyAt, Pairs, Held, Advanced, Places, Cancels, Cancelled}
 use Rattle.correction.proofs.PairLaws.{coeff-poly, poly-symbols, from-kept, factor-kept, to-mixed, factor-mixed, number-kept}

@@ -13,7 +13,7 @@ use Rattle.poly.specs.Span.{elem}
 use Rattle.space.specs.Ready.{Ready}
 use Rattle.space.specs.declared.Setting.{Setting}
 use Rattle.novel.specs.Novel.{Stepped}
-use Rattle.correction.specs.Coefficients.{coeff}
+use Rattle.poly.specs.Coefficients.{coeff}
 use Rattle.correction.specs.Near.{NearPoly}
 use Rattle.correction.specs.Pairs.{Pairs, Held}
 use Rattle.correction.specs.Start.{Vanishing, ThroughWord}

@@ -12,7 +12,7 @@ use Rattle.lists.specs.All.{All, All-take, IsZero}
 use Rattle.lists.specs.Pick.{pick, pick-true, pick-false}
 use Rattle.field.specs.Laws.{Ops, IsField}
 use Rattle.poly.specs.Poly.{Distinct, eval, quot, length-quot, quot-sym, quot-root, quot-zeros, head-zero, eval-zeros}
-use Rattle.correction.specs.Coefficients.{coeff, Low, eval-low, zeros-low}
+use Rattle.poly.specs.Coefficients.{coeff, Low, eval-low, zeros-low}
 
 -- at how many of the positions that both have two lists differ
 abbrev pub differences : List ℕ → List ℕ → ℕ

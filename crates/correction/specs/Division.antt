@@ -10,7 +10,7 @@ use lib.Seq.{take-suc, take-all, length-take-le}
 use Rattle.lists.specs.All.{All}
 use Rattle.field.specs.Laws.{Ops, IsField, sums, ⊗-1}
 use Rattle.poly.specs.Poly.{scaleP, mulP}
-use Rattle.correction.specs.Coefficients.{coeff, Low, timesPower, low-mulP, coeff-scaleP, coeff-times-power-at, coeff-times-power-below, mulP-snoc, coeff-sym}
+use Rattle.poly.specs.Coefficients.{coeff, Low, timesPower, low-mulP, coeff-scaleP, coeff-times-power-at, coeff-times-power-below, mulP-snoc, coeff-sym}
 
 -- the front of s is the product of u and the first j coefficients of p, and the others stand behind it
 pub record Dividing (K : Ops) (e d : ℕ) (p u : List ℕ) (j : ℕ) (s : List ℕ) : Type 0 where

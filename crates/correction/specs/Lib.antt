@@ -1,5 +1,4 @@
 -- The nearest codeword within half the distance of the code.
-pub mod Coefficients
 pub mod Differences
 pub mod Near
 pub mod Remainders

@@ -13,7 +13,7 @@ use Rattle.poly.specs.Span.{elem, elem-sym}
 use Rattle.poly.specs.Blocks.{eighths}
 use Rattle.poly.specs.Codeword.{Basis, wordOf, Codeword, basis-distinct}
 use Rattle.poly.specs.Shift.{CodewordAt, codeword-shift}
-use Rattle.correction.specs.Coefficients.{coeff}
+use Rattle.poly.specs.Coefficients.{coeff}
 use Rattle.correction.specs.Differences.{differences, differing, differing-le, differing-triangle, differing-sym, differences-differing, root-count}
 
 -- at most so many positions of a word of n symbols are put right: 7/16 of them, rounded down

@@ -9,7 +9,7 @@ use Rattle.field.specs.Products.{Sized}
 use Rattle.field.specs.Symbols.{symbols}
 use Rattle.field.specs.declared.Field.{Field}
 use Rattle.poly.specs.Poly.{mulP}
-use Rattle.correction.specs.Coefficients.{coeff, Low}
+use Rattle.poly.specs.Coefficients.{coeff, Low}
 use Rattle.correction.specs.Division.{Step}
 use Rattle.correction.specs.Pairs.{polyAt}
 

@@ -9,7 +9,7 @@ use lib.ListN.{length}
 use Rattle.lists.specs.All.{All}
 use Rattle.field.specs.Laws.{Ops, IsField, ring, ⊗-0, ⊗-1, ⊗-zero}
 use Rattle.poly.specs.Poly.{Distinct, eval, addP, mulP, eval-addP, eval-mulP, addP-sym, mulP-sym}
-use Rattle.correction.specs.Coefficients.{coeff, Low, timesPower, Mixed, low-le, low-less, low-times-power, low-addP, low-mulP, low-mixed, mixed-left, mixed-right, eval-mixed, eval-times-power, coeff-times-power-at, coeff-equal, coeff-sym}
+use Rattle.poly.specs.Coefficients.{coeff, Low, timesPower, Mixed, low-le, low-less, low-times-power, low-addP, low-mulP, low-mixed, mixed-left, mixed-right, eval-mixed, eval-times-power, coeff-times-power-at, coeff-equal, coeff-sym}
 use Rattle.correction.specs.Differences.{differing, differing-le, root-low}
 
 module _ (K : Ops) (n : ℕ) (x w : ℕ → ℕ) where
@@ -57,7 +57,7 @@ module _ {K : Ops} (F : IsField K) (n : ℕ) (x w : ℕ → ℕ) where
       }
     where
       no-value : (y : ℕ) → eval K none y ≡ 0
-      no-value y = Rattle.correction.specs.Coefficients.eval-coeff F none [] y (λ i. l0 i (omega arith))
+      no-value y = Rattle.poly.specs.Coefficients.eval-coeff F none [] y (λ i. l0 i (omega arith))
 
       same : (i : ℕ) → coeff one i ≡ coeff (1 ∷ []) i
       same zero = e1
@@ -67,7 +67,7 @@ module _ {K : Ops} (F : IsField K) (n : ℕ) (x w : ℕ → ℕ) where
       constant y = simp (ring, F)
 
       one-value : (y : ℕ) → eval K one y ≡ 1
-      one-value y = Rattle.correction.specs.Coefficients.eval-coeff F one (1 ∷ []) y same ∙ constant y
+      one-value y = Rattle.poly.specs.Coefficients.eval-coeff F one (1 ∷ []) y same ∙ constant y
 
   hits-step : (y c p q u v a b : ℕ) → p ≡ y ⊗ a → q ≡ y ⊗ b → u ≡ p ⊕ c ⊗ q → v ≡ a ⊕ c ⊗ b → u ≡ y ⊗ v
   hits-step y c p q u v a b ep eq eu ev = simp (ep, eq, eu, ev, ring, F)

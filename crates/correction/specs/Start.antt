@@ -15,7 +15,7 @@ use Rattle.space.specs.Images.{Images}
 use Rattle.space.specs.Ready.{Ready}
 use Rattle.space.specs.declared.Setting.{Setting}
 use Rattle.novel.specs.Novel.{StepsOf}
-use Rattle.correction.specs.Coefficients.{coeff, Low}
+use Rattle.poly.specs.Coefficients.{coeff, Low}
 
 -- the coefficients of the polynomial that vanishes on the space
 pub record Vanishing (q : ℕ) (steps : List ℕ) (k : ℕ) (values : List ℕ) : Type 0 where

@@ -47,7 +47,12 @@ fn verdict_code(v: Verdict) -> u64
 {
     match v {
         Verdict::Accept(n) => n as u64 % 65536,
-        Verdict::Reject(n) => 65536 + n as u64 % 65536,
+        Verdict::Reject(r) => {
+            65536
+                + r.reads as u64 % 65536
+                + r.degree as u64 % 65536 * 4294967296
+                + r.dimension as u64 % 65536 * 281474976710656
+        }
         Verdict::Refused(n) => 131072 + n as u64,
     }
 }

@@ -5,6 +5,7 @@ use mathlib.Core.List.{List}
 use Prim.Native.Nat.{ℕ}
 use Rattle.lists.specs.Answers.{Passes, Refuses}
 use Rattle.proximity.specs.Dim.{R}
+use Rattle.verifier.specs.declared.Rejection.{Rejection}
 use Rattle.verifier.specs.declared.Verdict.{Verdict}
 use Rattle.verifier.specs.declared.Verdict.the-variants.{Accept, Reject, Refused}
 use Rattle.stored.specs.Check.{AnsweredFile}
@@ -17,18 +18,32 @@ use Rattle.filing.specs.declared.Outcome.{Outcome}
 -- 0 for accept, 100 for reject, else the number of the refusal
 abbrev pub codeOf : Verdict → ℕ
 codeOf (Accept n) = 0
-codeOf (Reject n) = 100
+codeOf (Reject r) = 100
 codeOf (Refused n) = n
 
 -- what the lent number of reads holds afterwards: a refused call leaves what it held before
 abbrev pub readsAfter : ℕ → Verdict → ℕ
 readsAfter before (Accept n) = n
-readsAfter before (Reject n) = n
+readsAfter before (Reject r) = r .reads
 readsAfter before (Refused n) = before
 
 -- the checker for one coin over the file f: the answer r, and the lent number of reads before and after
 abbrev pub HostAnswer : List ℕ → ℕ → ℕ → ℕ → ℕ → Type 0
 HostAnswer f coin before after r = (v : Verdict) × AnsweredFile f coin v × (r ≡ codeOf v) × (after ≡ readsAfter before v)
+
+-- what three lent numbers hold afterwards, of reads, degree and dimension: a reject tells them, with accept the last two are 0, and a refused call leaves them
+abbrev pub toldAfter : Rejection → Verdict → Rejection
+toldAfter before (Accept n) = record { reads = n; degree = 0; dimension = 0 }
+toldAfter before (Reject r) = r
+toldAfter before (Refused n) = before
+
+-- the checker for one coin with the degree: the answer r, and the lent numbers before and after
+abbrev pub HostDegree : List ℕ → ℕ → Rejection → Rejection → ℕ → Type 0
+HostDegree f coin before after r = (v : Verdict) × AnsweredFile f coin v × (r ≡ codeOf v) × (after ≡ toldAfter before v)
+
+-- the three lent numbers
+abbrev pub triple : ℕ → ℕ → ℕ → Rejection
+triple n g m = record { reads = n; degree = g; dimension = m }
 
 -- R of an accepted file's dimension, and 0 for a refused one
 abbrev pub CoinBits : List ℕ → ℕ → Type 0

@@ -1,6 +1,8 @@
 // The host kit: the checker over stored files and their converter, for programs in C. A file is lent as its bytes; an
 // answer is a number: definitions in specs/Answer.antt say which. include/proximity.h declares the
 // calls.
+mod degree;
+
 use proximity::tables;
 use verifier::Verdict;
 ghost use Rattle.lists.specs.Answers.{Answers};
@@ -50,8 +52,8 @@ pub extern "C" fn proximity_check_file(file: &[u8], coin: u64, reads: &mut u32) 
             *reads = n as u32;
             0
         }
-        Verdict::Reject(n) => {
-            *reads = n as u32;
+        Verdict::Reject(r) => {
+            *reads = r.reads as u32;
             100
         }
         Verdict::Refused(n) => n as u32,

@@ -61,7 +61,7 @@ module _ {K : Ops} (F : IsField K) where
   infixl 70 _⊗_
   open Ops K using (_⊕_, _⊗_, inv, Sym)
 
-  vanishP-sym : (bs : List ℕ) → All Sym bs → All Sym (vanishP K bs)
+  pub vanishP-sym : (bs : List ℕ) → All Sym bs → All Sym (vanishP K bs)
   vanishP-sym [] s = (F .sym-zero, (F .sym-one, tt))
   vanishP-sym (b ∷ bs) s =
       let ih : All Sym (vanishP K bs) = vanishP-sym bs (s .1) in
@@ -80,7 +80,7 @@ module _ {K : Ops} (F : IsField K) where
       ∙ ap₂ _⊗_ (eval-vanishP bs x s) (eval-addP F (vanishP K bs) (vanish K bs b ∷ []) x ∙ ap₂ _⊕_ (eval-vanishP bs x s) (constant-eval (vanish K bs b) x))
       ∙ sym (vanish-cons F b bs x)
 
-  imageP-sym : (bs : List ℕ) → All Sym bs → (j : ℕ) → All Sym (imageP K bs j)
+  pub imageP-sym : (bs : List ℕ) → All Sym bs → (j : ℕ) → All Sym (imageP K bs j)
   imageP-sym bs sb j = scaleP-sym F (inv (step K bs j)) (vanishP K (take j bs)) (F .sym-inv (step-sym F bs sb j)) (vanishP-sym (take j bs) (All-take Sym j bs sb))
 
   pub eval-imageP : (bs : List ℕ) (j x : ℕ) → Sym x → eval K (imageP K bs j) x ≡ image K bs j x

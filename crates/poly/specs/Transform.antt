@@ -110,12 +110,20 @@ module _ (K : Ops) (T S : ℕ → ℕ → ℕ) (m : ℕ) (same : (i j : ℕ) →
       ∙ ap₂ _++_ (transform-ext j (omega arith) u v (folded K j (v j) d) (λ i h. e i (omega arith)))
       (transform-ext j (omega arith) (shifted K T j u) (shifted K S j v) (addP K (folded K j (v j) d) (drop (2 ^ j) d)) (shifted-ext j hj u v e))
 
+-- the inverse reads T i j for j below i alone
+module _ (K : Ops) (T S : ℕ → ℕ → ℕ) (m : ℕ) (same : (i j : ℕ) → i < m → j < i → T i j ≡ S i j) where
+  infixl 60 _⊕_
+  open Ops K using (_⊕_)
+
+  shifted-below : (j : ℕ) → j < m → (u v : ℕ → ℕ) → ((i : ℕ) → i < suc j → u i ≡ v i) → (i : ℕ) → i < j → shifted K T j u i ≡ shifted K S j v i
+  shifted-below j hj u v e i h = ap₂ _⊕_ (e i (omega arith)) (same j i hj h)
+
   pub inverse-ext : (j : ℕ) → j ≤ m → (u v : ℕ → ℕ) (g : List ℕ) → ((i : ℕ) → i < j → u i ≡ v i) → inverse K T j u g ≡ inverse K S j v g
   inverse-ext zero hj u v g e = refl
   inverse-ext (suc j) hj u v g e =
       ap (λ (c : ℕ). unfolded K c (inverse K T j u (take (2 ^ j) g)) (inverse K T j (shifted K T j u) (drop (2 ^ j) g))) (e j (omega arith))
       ∙ ap₂ (unfolded K (v j)) (inverse-ext j (omega arith) u v (take (2 ^ j) g) (λ i h. e i (omega arith)))
-      (inverse-ext j (omega arith) (shifted K T j u) (shifted K S j v) (drop (2 ^ j) g) (shifted-ext j hj u v e))
+      (inverse-ext j (omega arith) (shifted K T j u) (shifted K S j v) (drop (2 ^ j) g) (shifted-below j hj u v e))
 
 -- ---- each undoes the other
 

@@ -1,41 +1,21 @@
 // The bench cases of the checker, and the prover's pairs at k = 7 to 9 counted over all coins: a
 // line for each, held to the file stdout. Lent outputs and scratch come in as sevens.
-use codec::Outcome;
+mod lines;
+mod short;
+
 use libc::STDOUT_FILENO;
+use lines::line;
+use lines::outcome;
+use lines::verdict;
 use verifier::Verdict;
 ghost use Prim.Native.Nat.{_≤_};
-
-fn line(label: &[u8], middle: &[u8], n: u64) {
-    io::write_all(STDOUT_FILENO, label);
-    io::write_all(STDOUT_FILENO, middle);
-    io::print_decimal(STDOUT_FILENO, n);
-    io::write_all(STDOUT_FILENO, b"\n");
-}
-
-fn verdict(label: &[u8], v: Verdict) {
-    match v {
-        Verdict::Accept(n) => line(label, b": accepted, reads ", n as u64),
-        Verdict::Reject(n) => line(label, b": rejected, reads ", n as u64),
-        Verdict::Refused(n) => line(label, b": refused ", n as u64),
-    }
-}
-
-fn outcome(label: &[u8], o: Outcome) {
-    match o {
-        Outcome::Done => {
-            io::write_all(STDOUT_FILENO, label);
-            io::write_all(STDOUT_FILENO, b": done\n");
-        }
-        Outcome::Refused(n) => line(label, b": refused ", n as u64),
-    }
-}
 
 fn one_unless_accepted(v: Verdict) -> u64
     ensures { λ r. ⌜ r ≤ 1 ⌝ }
 {
     match v {
         Verdict::Accept(n) => 0,
-        Verdict::Reject(n) => 1,
+        Verdict::Reject(_) => 1,
         Verdict::Refused(n) => 1,
     }
 }
@@ -209,7 +189,17 @@ fn zero_pair() {
     proof[0] = 0;
     word[32] = 1;
     count(b"k 7, word position 32", 283, &basis, 0, &word, &proof, 64);
+    verdict(
+        b"k 7, word position 32, coin 8",
+        verifier::check(283, &basis, 0, &word, &proof, 8),
+    );
     word[32] = 0;
+    proof[0] = 1;
+    verdict(
+        b"k 7, proof position 0, coin 17",
+        verifier::check(283, &basis, 0, &word, &proof, 17),
+    );
+    proof[0] = 0;
     verdict(
         b"k 7, coin 63",
         verifier::check(283, &basis, 0, &word, &proof, 63),
@@ -217,19 +207,6 @@ fn zero_pair() {
     verdict(
         b"k 7, coin 64",
         verifier::check(283, &basis, 0, &word, &proof, 64),
-    );
-}
-
-fn only_coin() {
-    let basis = [1u16, 2, 4, 8, 16, 32];
-    let word = [0u16; 64];
-    verdict(
-        b"k 6, coin 0",
-        verifier::check(283, &basis, 0, &word, &[], 0),
-    );
-    verdict(
-        b"k 6, coin 1",
-        verifier::check(283, &basis, 0, &word, &[], 1),
     );
 }
 
@@ -288,7 +265,8 @@ fn shifted_rounds() {
 
 fn main() {
     zero_pair();
-    only_coin();
+    short::only_coin();
+    short::words();
     rounds();
     shifts();
     shifted_rounds();

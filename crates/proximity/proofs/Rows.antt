@@ -8,20 +8,19 @@ use native.Mathlib.Numerals.{add-one}
 use native.Mathlib.Omega.{arith}
 use borrow.Author.Tests.{lt-ltb, le-ltb, eq-eqb, ne-eqb}
 use lib.Dec.{eqb}
-use lib.ListN.{length, getD, drop, replicate, length-replicate, drop-of-length-le, List·getD-eq-default}
+use lib.ListN.{length, getD, drop, replicate, length-replicate, drop-of-length-le}
 use lib.Seq.{ext-getD, drop-cons}
 use Rattle.lists.specs.Filled.{Filled}
 use Rattle.lists.specs.Pick.{pick, pick-true, pick-false}
 use Rattle.lists.specs.Tables.{tab, length-tab, getD-tab}
 use Rattle.lists.specs.All.{zeros-at}
-use Rattle.lists.specs.Upto.{Upto, upto-all}
 use Rattle.field.specs.Binary.{_⊕_}
 use Rattle.field.specs.Symbols.{symbols}
 use Rattle.field.specs.Xor.{xor-assoc, xor-comm, xor-zero-left}
 use Rattle.poly.specs.Span.{bitOf, elem}
 use Rattle.space.specs.Sizes.{maxDim, cells}
 use Rattle.proximity.specs.Dim.{half, colDim}
-use Rattle.proximity.specs.LineImages.{addedRow, imageColumn, elementImages, rowImages, columnImages}
+use Rattle.proximity.specs.LineImages.{addedRow, imageColumn, elementImages, rowImages}
 
 module _ (t : List ℕ) where
   pub length-added : (i : ℕ) (x : List ℕ) → length (addedRow t i x) ≡ 16
@@ -113,8 +112,3 @@ module _ (t : List ℕ) where
             ap (λ (p : ℕ). getD new p 0) (sym place) ∙ f .inside (p % 16) (omega arith) ∙ ap (λ (y : List ℕ). getD y (p % 16) 0) e
             ∙ sym (pick-true _ _ (eq-eqb (p / 16) (half k + 2) q))
         at p (no q) = f .outside p (apart p q (decLt p (16 * (half k + 2)))) ∙ sym (pick-false _ _ (ne-eqb (p / 16) (half k + 2) q))
-
-    -- the table is shifted, and zeros stand past its end
-    pub column-filled : {i : ℕ} {new : List ℕ} → cells ≤ i + 17 * half k → Upto cells i (λ p. getD t (p + 17 * half k) 0) new → new ≡ columnImages k t
-    unfolding columnImages
-    column-filled l u = upto-all (λ p g n. List·getD-eq-default t 0 (omega arith)) u

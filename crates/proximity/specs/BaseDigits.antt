@@ -7,14 +7,11 @@ use native.Mathlib.Decide.{decLt}
 use native.Mathlib.Omega.{arith}
 use lib.ListN.{length, getD, replicate, length-replicate, List·getD-eq-default}
 use Rattle.lists.specs.All.{All, IsZero, All-replicate}
-use Rattle.field.specs.Laws.{Ops, IsField, ring, 0-⊕, ⊕-0, 0-⊗, ⊗-0}
-use Rattle.poly.specs.Poly.{eval, addP, scaleP, addP-sym, scaleP-sym, eval-zeros, length-addP, length-scaleP}
+use Rattle.field.specs.Laws.{Ops, IsField, ring, 0-⊕, 0-⊗, ⊗-0}
+use Rattle.poly.specs.Poly.{eval, scaleP, addP-sym, scaleP-sym, eval-zeros, length-addP, length-scaleP}
+use Rattle.poly.specs.Coefficients.{Low, coeff-addP, coeff-scaleP}
 use Rattle.proximity.specs.Bivariate.{front, final, reduceByQ, timesX, digits, eval2}
 use Rattle.proximity.specs.TwoVariables.{Digits, evalMonic}
-
--- The entries from d on are 0
-abbrev Low : ℕ → List ℕ → Type 0
-Low d s = (i : ℕ) → d ≤ i → getD s i 0 ≡ 0
 
 -- The coefficients from d on are 0, in digits of m coefficients
 abbrev LowDigits : ℕ → ℕ → List (List ℕ) → Type 0
@@ -116,17 +113,6 @@ module _ {K : Ops} (F : IsField K) where
 
   -- ---- the carry out of the last digit is 0
 
-  pub getD-addP : (p q : List ℕ) (i : ℕ) → getD (addP K p q) i 0 ≡ getD p i 0 ⊕ getD q i 0
-  getD-addP [] q i = sym (0-⊕ F (getD q i 0))
-  getD-addP (c ∷ p) [] i = sym (⊕-0 F (getD (c ∷ p) i 0))
-  getD-addP (c ∷ p) (d ∷ q) zero = refl
-  getD-addP (c ∷ p) (d ∷ q) (suc i) = getD-addP p q i
-
-  pub getD-scaleP : (a : ℕ) (p : List ℕ) (i : ℕ) → getD (scaleP K a p) i 0 ≡ a ⊗ getD p i 0
-  getD-scaleP a [] i = sym (⊗-0 F a)
-  getD-scaleP a (c ∷ p) zero = refl
-  getD-scaleP a (c ∷ p) (suc i) = getD-scaleP a p i
-
   front-low : (d e : ℕ) (s : List ℕ) → Low d (e ∷ s) → Low d (front e s)
   front-low d e s l i h = by (decLt i (length s))
     where
@@ -138,7 +124,7 @@ module _ {K : Ops} (F : IsField K) where
   final-low d e s h l = final-at e s ∙ l (length s) h
 
   multiple-low : (q : List ℕ) (d e : ℕ) (s : List ℕ) → length s ≡ length q → Low d (e ∷ s) → Low d (scaleP K (final e s) q)
-  multiple-low q d e s g l i h = getD-scaleP (final e s) q i ∙ by (decLt i (length q))
+  multiple-low q d e s g l i h = coeff-scaleP F (final e s) q i ∙ by (decLt i (length q))
     where
       by : Dec (i < length q) → final e s ⊗ getD q i 0 ≡ 0
       by (yes t) = ap (λ (u : ℕ). u ⊗ getD q i 0) (final-low d e s (omega arith) l) ∙ 0-⊗ F (getD q i 0)
@@ -146,7 +132,7 @@ module _ {K : Ops} (F : IsField K) where
 
   reduceByQ-low : (q : List ℕ) (d e : ℕ) (s : List ℕ) → length s ≡ length q → Low d (e ∷ s) → Low d (reduceByQ K q e s)
   reduceByQ-low q d e s g l i h =
-      getD-addP (front e s) (scaleP K (final e s) q) i ∙ ap₂ _⊕_ (front-low d e s l i h) (multiple-low q d e s g l i h) ∙ 0-⊕ F 0
+      coeff-addP F (front e s) (scaleP K (final e s) q) i ∙ ap₂ _⊕_ (front-low d e s l i h) (multiple-low q d e s g l i h) ∙ 0-⊕ F 0
 
   tail-low : (m d : ℕ) (Q : List (List ℕ)) → LowDigits m (d - 1 - m) Q → LowDigits m (d - m - 1) Q
   tail-low m d Q l = subst (λ (t : ℕ). LowDigits m t Q) (omega arith) l

@@ -93,11 +93,11 @@ P5 =
     Accepts (symbols 11) (dim 3) basis-8 fives [] 0
     × ((i : ℕ) → i < 8 → Accepts (symbols 11) (dim 3) basis-8 (set fives i 6) [] 0 → ⊥)
 
-all-five : Codeword (symbols 11) 3 basis-8 fives
+pub all-five : Codeword (symbols 11) 3 basis-8 fives
 unfolding _⊕_ product degree
 all-five = (5 ∷ [], refl, (omega arith, tt), refl)
 
-one-six : (i : ℕ) → i < 8 → Codeword (symbols 11) 3 basis-8 (set fives i 6) → ⊥
+pub one-six : (i : ℕ) → i < 8 → Codeword (symbols 11) 3 basis-8 (set fives i 6) → ⊥
 one-six i h c = by (ℕ-discrete i 0)
   where
     six : getD (set fives i 6) i 0 ≡ 6
@@ -128,11 +128,11 @@ P6 =
     Accepts (symbols 19) (dim 4) basis-16 (tab 16 (λ i. i)) [] 0
     × (Accepts (symbols 19) (dim 4) basis-16 (tab 16 (λ i. product 19 i i)) [] 0 → ⊥)
 
-identity-word : Codeword (symbols 19) 4 basis-16 (tab 16 (λ i. i))
+pub identity-word : Codeword (symbols 19) 4 basis-16 (tab 16 (λ i. i))
 unfolding _⊕_ product degree
 identity-word = (0 ∷ 1 ∷ [], refl, (omega arith, (omega arith, tt)), refl)
 
-squares : Codeword (symbols 19) 4 basis-16 (tab 16 (λ i. product 19 i i)) → ⊥
+pub squares : Codeword (symbols 19) 4 basis-16 (tab 16 (λ i. product 19 i i)) → ⊥
 unfolding _⊕_ product degree
 squares c =
     let e : _≡_ {A = ℕ} 4 2 = identity (symbols-field 19 irreducible-19) basis-16 (tab 16 (λ i. product 19 i i)) c refl refl refl refl (omega arith) in

@@ -8,13 +8,13 @@ use lib.ListN.{length, getD, List·getD-eq-default}
 use Rattle.lists.specs.All.{All, IsZero, All-at}
 use Rattle.lists.specs.Tables.{tab-ext}
 use Rattle.field.specs.Laws.{Ops, IsField, combine, ring, sums, ⊕-zero, 0-⊕, ⊕-0, ⊗-1}
-use Rattle.poly.specs.Poly.{addP, scaleP, mulP, addP-sym}
+use Rattle.poly.specs.Poly.{addP, mulP, addP-sym}
+use Rattle.poly.specs.Coefficients.{coeff-addP, coeff-mulP, low-zeros, mulP-zeros}
 use Rattle.poly.specs.Codeword.{Basis, decode-unique}
 use Rattle.poly.specs.Span.{elem}
 use Rattle.proximity.specs.Dim.{half}
 use Rattle.proximity.specs.Bivariate.{qCoeffs, bivariate}
 use Rattle.proximity.specs.TwoVariables.{Digits, compose, compose-sym, length-snoc}
-use Rattle.proximity.specs.BaseDigits.{getD-addP, getD-scaleP}
 use Rattle.proximity.specs.Proposition.{elem-field, qCoeffs-sym, length-qCoeffs, length-bivariate, bivariate-digits, eval-bivariate, length-univariate, univariate-sym, eval-univariate}
 
 -- The coefficients of x^j y^i are the same; past the end they are 0
@@ -46,9 +46,6 @@ module _ {K : Ops} (F : IsField K) where
 
   -- ---- products
 
-  mul-at : (c : ℕ) (p q : List ℕ) (i : ℕ) → getD (mulP K (c ∷ p) q) i 0 ≡ c ⊗ getD q i 0 ⊕ getD (0 ∷ mulP K p q) i 0
-  mul-at c p q i = getD-addP F (scaleP K c q) (0 ∷ mulP K p q) i ∙ ap (λ (t : ℕ). t ⊕ getD (0 ∷ mulP K p q) i 0) (getD-scaleP F c q i)
-
   shift-sum : (p a b : List ℕ) → ((i : ℕ) → getD p i 0 ≡ getD a i 0 ⊕ getD b i 0) → (i : ℕ) → getD (0 ∷ p) i 0 ≡ getD (0 ∷ a) i 0 ⊕ getD (0 ∷ b) i 0
   shift-sum p a b e zero = sym (0-⊕ F 0)
   shift-sum p a b e (suc i) = e i
@@ -60,16 +57,9 @@ module _ {K : Ops} (F : IsField K) where
   mul-sum [] b q i = sym (0-⊕ F (getD (mulP K b q) i 0))
   mul-sum (c ∷ a) [] q i = sym (⊕-0 F (getD (mulP K (c ∷ a) q) i 0))
   mul-sum (c ∷ a) (d ∷ b) q i =
-      mul-at (c ⊕ d) (addP K a b) q i
+      coeff-mulP F (c ⊕ d) (addP K a b) q i
       ∙ sum-step c d (getD q i 0) _ _ _ (shift-sum (mulP K (addP K a b) q) (mulP K a q) (mulP K b q) (mul-sum a b q) i)
-      ∙ sym (ap₂ _⊕_ (mul-at c a q i) (mul-at d b q i))
-
-  zero-step : (c y u : ℕ) → c ≡ 0 → u ≡ 0 → c ⊗ y ⊕ u ≡ 0
-  zero-step c y u e h = simp (e, h, ring, F)
-
-  mul-zero : (p q : List ℕ) → All IsZero p → (i : ℕ) → getD (mulP K p q) i 0 ≡ 0
-  mul-zero [] q z i = refl
-  mul-zero (c ∷ p) q z i = mul-at c p q i ∙ zero-step c (getD q i 0) _ (z .0) (shift-zero (mulP K p q) (mul-zero p q (z .1)) i)
+      ∙ sym (ap₂ _⊕_ (coeff-mulP F c a q i) (coeff-mulP F d b q i))
 
   -- ---- quotient and remainder by a monic polynomial of degree m = length q
 
@@ -85,8 +75,8 @@ module _ {K : Ops} (F : IsField K) where
   low-multiple q (c ∷ p) s z =
       let t : All IsZero p =
       low-multiple q p (s .1)
-      (λ i h. past-step c _ _ (List·getD-eq-default (q ++ (1 ∷ [])) 0 {n = suc i} (omega (arith, length-snoc q 1))) (sym (mul-at c p (q ++ (1 ∷ [])) (suc i)) ∙ z (suc i) (omega arith)))
-      in (head-step c _ _ (s .0) (highest q) (shift-zero (mulP K p (q ++ (1 ∷ []))) (mul-zero p (q ++ (1 ∷ [])) t) (length q)) (sym (mul-at c p (q ++ (1 ∷ [])) (length q)) ∙ z (length q) (omega arith)), t)
+      (λ i h. past-step c _ _ (List·getD-eq-default (q ++ (1 ∷ [])) 0 {n = suc i} (omega (arith, length-snoc q 1))) (sym (coeff-mulP F c p (q ++ (1 ∷ [])) (suc i)) ∙ z (suc i) (omega arith)))
+      in (head-step c _ _ (s .0) (highest q) (shift-zero (mulP K p (q ++ (1 ∷ []))) (λ i. mulP-zeros F p (q ++ (1 ∷ [])) (low-zeros p t) i (omega arith)) (length q)) (sym (coeff-mulP F c p (q ++ (1 ∷ [])) (length q)) ∙ z (length q) (omega arith)), t)
 
   high-step : (s t a b : ℕ) → s ≡ 0 → t ≡ 0 → s ⊕ a ≡ t ⊕ b → a ⊕ b ≡ 0
   high-step s t a b hs ht e = combine F e (simp (hs, ht, sums, F))
@@ -97,7 +87,7 @@ module _ {K : Ops} (F : IsField K) where
   module _ (q s t a b : List ℕ) (ls : length s ≤ length q) (lt : length t ≤ length q) (sa : All Sym a) (sb : All Sym b)
       (e : (i : ℕ) → getD (addP K s (mulP K a (q ++ (1 ∷ [])))) i 0 ≡ getD (addP K t (mulP K b (q ++ (1 ∷ [])))) i 0) where
     split : (i : ℕ) → getD s i 0 ⊕ getD (mulP K a (q ++ (1 ∷ []))) i 0 ≡ getD t i 0 ⊕ getD (mulP K b (q ++ (1 ∷ []))) i 0
-    split i = sym (getD-addP F s (mulP K a (q ++ (1 ∷ []))) i) ∙ e i ∙ getD-addP F t (mulP K b (q ++ (1 ∷ []))) i
+    split i = sym (coeff-addP F s (mulP K a (q ++ (1 ∷ []))) i) ∙ e i ∙ coeff-addP F t (mulP K b (q ++ (1 ∷ []))) i
 
     difference : All IsZero (addP K a b)
     difference =
@@ -105,10 +95,10 @@ module _ {K : Ops} (F : IsField K) where
         (λ i h. mul-sum a b (q ++ (1 ∷ [])) i ∙ high-step _ _ _ _ (List·getD-eq-default s 0 {n = i} (omega arith)) (List·getD-eq-default t 0 {n = i} (omega arith)) (split i))
 
     one-quotient : (i : ℕ) → getD a i 0 ≡ getD b i 0
-    one-quotient i = ⊕-zero F _ _ (sym (getD-addP F a b i) ∙ All-at IsZero (addP K a b) 0 difference refl i)
+    one-quotient i = ⊕-zero F _ _ (sym (coeff-addP F a b i) ∙ All-at IsZero (addP K a b) 0 difference refl i)
 
     one-remainder : (i : ℕ) → getD s i 0 ≡ getD t i 0
-    one-remainder i = rest-step _ _ _ _ (sym (mul-sum a b (q ++ (1 ∷ [])) i) ∙ mul-zero (addP K a b) (q ++ (1 ∷ [])) difference i) (split i)
+    one-remainder i = rest-step _ _ _ _ (sym (mul-sum a b (q ++ (1 ∷ [])) i) ∙ mulP-zeros F (addP K a b) (q ++ (1 ∷ [])) (low-zeros (addP K a b) difference) i (omega arith)) (split i)
 
   -- ---- digits
 

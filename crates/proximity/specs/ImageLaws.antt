@@ -19,14 +19,14 @@ use Rattle.poly.specs.Span.{bitOf, elem, elem-sym}
 use Rattle.poly.specs.Novel.{image, elem-image}
 use Rattle.poly.specs.Tower.{length-images, image-table, image-take, image-append}
 use Rattle.poly.specs.Codeword.{Basis}
-use Rattle.space.specs.Images.{Images}
+use Rattle.space.specs.Images.{Images, upperImages, length-upper-images, upper-image, upper-each}
 use Rattle.space.specs.Sizes.{maxDim, cells}
 use Rattle.proximity.specs.Dim.{half, colDim}
 use Rattle.proximity.specs.Spaces.{β, rowLast, rowBasis, colBasis}
 use Rattle.proximity.specs.declared.Line.{Line}
 use Rattle.proximity.specs.declared.Line.the-variants.{Row, Column}
 use Rattle.proximity.specs.ByLine.{lineBasis}
-use Rattle.proximity.specs.LineImages.{imageColumn, elementImages, rowImages, columnImages, lineImages, LineTable}
+use Rattle.proximity.specs.LineImages.{imageColumn, elementImages, rowImages, lineImages, LineTable}
 
 -- Sums are the same under every modulus
 pub same-elem : (m n : ℕ) (bs : List ℕ) (r : ℕ) → elem (symbols m) bs r ≡ elem (symbols n) bs r
@@ -153,23 +153,16 @@ module _ (m : ℕ) (irr : Irreducible m) (b t : List ℕ) (I : Images (symbols m
           }
 
     -- ---- a column
-    pub column-images : Images K (colBasis K k b) (columnImages k t)
-    unfolding columnImages
+    pub column-images : Images K (colBasis K k b) (upperImages h t)
     column-images =
         record {
-          count = length-tab cells shifted;
-          elements = All-tab (K .Sym) cells shifted (λ p l. entry-sym (p + 17 * h));
+          count = length-upper-images h t;
+          elements = upper-each (K .Sym) h t (F .sym-zero) (I .elements);
           right = λ i j l g. let f : i < k - h = omega (arith, count) in
               let f′ : j + 1 < k - h = omega (arith, count) in
-              let place : 16 * i + j + 17 * h ≡ 16 * (h + i) + (h + j) = omega arith in
-              getD-tab cells shifted (16 * i + j) 0 (omega arith)
-              ∙ ap (λ (p : ℕ). getD t p 0) place ∙ I .right (h + i) (h + j) (omega arith) (omega arith)
-              ∙ image-table F b h j i (omega arith);
+              upper-image h t i j (omega arith) ∙ I .right (h + i) (h + j) (omega arith) (omega arith) ∙ image-table F b h j i (omega arith);
         }
       where
-        shifted : ℕ → ℕ
-        shifted p = getD t (p + 17 * h) 0
-
         count : length (colBasis K k b) ≡ k - h
         count = length-images F b h ∙ length-drop h b ∙ ap (λ (n : ℕ). n - h) lb
 

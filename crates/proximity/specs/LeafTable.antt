@@ -2,7 +2,7 @@
 use mathlib.Core.Path.{_≡_, refl, sym, ap, _∙_, subst}
 use mathlib.Core.Bool.{Bool, true, false}
 use mathlib.Core.List.{List}
-use Prim.Native.Nat.{ℕ, _+_, _*_, _/_, _%_, _≤_}
+use Prim.Native.Nat.{ℕ, _+_, _/_, _%_, _≤_}
 use native.Mathlib.Omega.{arith}
 use lib.Dec.{ltb, eqb}
 use lib.ListN.{length, getD}
@@ -12,16 +12,15 @@ use Rattle.field.specs.Binary.{Irreducible}
 use Rattle.field.specs.Laws.{Ops}
 use Rattle.field.specs.Symbols.{symbols, symbols-field}
 use Rattle.poly.specs.Codeword.{Basis}
-use Rattle.space.specs.Images.{Images}
+use Rattle.space.specs.Images.{Images, length-upper-images}
 use Rattle.space.specs.Sizes.{cells}
 use Rattle.proximity.specs.ByLine.{lineDim, lineBasis}
 use Rattle.proximity.specs.Dim.{half, colDim, Dim, leaf, node, dim}
-use Rattle.proximity.specs.LineImages.{elementImages, rowImages, columnImages, LineTable}
+use Rattle.proximity.specs.LineImages.{elementImages, rowImages, LineTable}
 use Rattle.proximity.specs.LineLaws.{line-in-range, line-basis}
 use Rattle.proximity.specs.Lines.{line-cases}
 use Rattle.proximity.specs.Places.{leafDim-leaf, leafBasis-leaf, leafDim-row, leafDim-column, leafBasis-row, leafBasis-column}
-use Rattle.proximity.specs.Reads.{leafDim, leafBasis}
-use Rattle.proximity.specs.Verifier.{lineOf, bitsLeft, byLine}
+use Rattle.proximity.specs.Verifier.{lineOf, bitsLeft, byLine, leafDim, leafBasis}
 use Rattle.proximity.specs.declared.Line.{Line}
 use Rattle.proximity.specs.declared.Line.the-variants.{Row, Column}
 
@@ -49,20 +48,16 @@ length-row-table k t r e =
     by true g = e
     by false g = length-tab cells g
 
-length-column-table : (k : ℕ) (t : List ℕ) → length (columnImages k t) ≡ cells
-unfolding columnImages
-length-column-table k t = length-tab cells (λ p. getD t (p + 17 * half k) 0)
-
 pub length-line-table : (k : ℕ) (t : List ℕ) (l : Line) (r : List ℕ) → length t ≡ cells → LineTable k t l r → length r ≡ cells
 length-line-table k t (Row a) r e T = ap length (T .entries) ∙ length-row-table k t a e
-length-line-table k t (Column a) r e T = ap length (T .entries) ∙ length-column-table k t
+length-line-table k t (Column a) r e T = ap length (T .entries) ∙ length-upper-images (half k) t
 
 module _ (k coin : ℕ) (s : 7 ≤ k) where
-  leafDim-line : (l : Line) → lineOf k coin ≡ l → leafDim (dim k) coin ≡ leafDim (dim (lineDim k l)) (bitsLeft k coin)
+  pub leafDim-line : (l : Line) → lineOf k coin ≡ l → leafDim (dim k) coin ≡ leafDim (dim (lineDim k l)) (bitsLeft k coin)
   leafDim-line (Row r) e = leafDim-row k coin s r e
   leafDim-line (Column a) e = leafDim-column k coin s a e
 
-  leafBasis-line : (K : Ops) (b : List ℕ) (l : Line) → lineOf k coin ≡ l → leafBasis K (dim k) b coin ≡ leafBasis K (dim (lineDim k l)) (lineBasis K k b l) (bitsLeft k coin)
+  pub leafBasis-line : (K : Ops) (b : List ℕ) (l : Line) → lineOf k coin ≡ l → leafBasis K (dim k) b coin ≡ leafBasis K (dim (lineDim k l)) (lineBasis K k b l) (bitsLeft k coin)
   leafBasis-line K b (Row r) e = leafBasis-row k coin s r e K b
   leafBasis-line K b (Column a) e = leafBasis-column k coin s a e K b
 

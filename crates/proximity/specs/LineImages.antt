@@ -10,7 +10,7 @@ use Rattle.field.specs.Binary.{_⊕_, Irreducible}
 use Rattle.field.specs.Symbols.{symbols}
 use Rattle.poly.specs.Span.{elem}
 use Rattle.poly.specs.Codeword.{Basis}
-use Rattle.space.specs.Images.{Images}
+use Rattle.space.specs.Images.{Images, upperImages}
 use Rattle.proximity.specs.Dim.{half, colDim}
 use Rattle.proximity.specs.declared.Line.{Line}
 use Rattle.proximity.specs.Verifier.{byLine}
@@ -35,11 +35,8 @@ rowImages k t r =
     pick (ltb r 4) t (tab cells (λ p. pick (eqb (p / 16) (half k + 2)) (getD (elementImages (half k) (colDim k) t r) (p % 16) 0) (getD t p 0)))
 
 -- A column: both indices are shifted by h, so each place 16 i + j by 17 h
-unfoldable pub columnImages : ℕ → List ℕ → List ℕ
-columnImages k t = tab cells (λ p. getD t (p + 17 * half k) 0)
-
 abbrev pub lineImages : ℕ → List ℕ → Line → List ℕ
-lineImages k t l = byLine l (rowImages k t) (λ a. columnImages k t)
+lineImages k t l = byLine l (rowImages k t) (λ a. upperImages (half k) t)
 
 -- The table t gives r, and where t is that of a space of dimension k, r is that of its line
 pub record LineTable (k : ℕ) (t : List ℕ) (l : Line) (r : List ℕ) : Type 0 where

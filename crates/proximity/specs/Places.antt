@@ -8,8 +8,7 @@ use Rattle.proximity.specs.Tree.{dim-leaf, dim-node}
 use Rattle.proximity.specs.Spaces.{rowBasis, colBasis}
 use Rattle.proximity.specs.declared.Line.{Line}
 use Rattle.proximity.specs.declared.Line.the-variants.{Row, Column}
-use Rattle.proximity.specs.Verifier.{lineOf, bitsLeft, byLine}
-use Rattle.proximity.specs.Reads.{leafDim, leafBasis}
+use Rattle.proximity.specs.Verifier.{lineOf, bitsLeft, byLine, leafDim, leafBasis}
 
 module _ (k coin : ℕ) where
   pub leafDim-leaf : k ≤ 6 → leafDim (dim k) coin ≡ k

@@ -18,7 +18,7 @@ use Rattle.proximity.specs.Spaces.{rowBasis, colBasis}
 use Rattle.proximity.specs.Proof.{slot, row, column, rowProof, colProof}
 use Rattle.proximity.specs.declared.Place.{Place}
 use Rattle.proximity.specs.declared.Place.the-variants.{InWord, InProof}
-use Rattle.proximity.specs.Verifier.{lineOf, bitsLeft, byLine, Accepts, cell, rowPlace, colPlace, positions, readAt}
+use Rattle.proximity.specs.Verifier.{byLine, Accepts, cell, rowPlace, colPlace, positions, readAt, leafDim, leafBasis}
 use Rattle.proximity.specs.Subspaces.{pow-rows, pow-four, pow-eight}
 use Rattle.proximity.specs.Layout.{seven, slot-fits, length-row, length-block, slot-inside, length-rowProof, length-colProof}
 use Rattle.proximity.specs.Lines.{line-cases}
@@ -118,16 +118,7 @@ module _ (k : ℕ) (w π : List ℕ) (lw : length w ≡ 2 ^ k) (lπ : 7 * 2 ^ k 
   read-col n m a ha (InProof i) h =
       getD-part m a i (drop (7 * 2 ^ k + 2 ^ colDim k * n) π) 0 h ∙ getD-drop (7 * 2 ^ k + 2 ^ colDim k * n) π (a * m + i) 0
 
--- ---- the space at which a coin ends: its dimension and its basis
-
-abbrev pub leafDim : {k : ℕ} → Dim k → ℕ → ℕ
-leafDim (leaf {k = k} s) coin = k
-leafDim (node {k = k} s rows cols) coin = byLine (lineOf k coin) (λ r. leafDim rows (bitsLeft k coin)) (λ a. leafDim cols (bitsLeft k coin))
-
-abbrev pub leafBasis : (K : Ops) → {k : ℕ} → Dim k → List ℕ → ℕ → List ℕ
-leafBasis K (leaf s) b coin = b
-leafBasis K (node {k = k} s rows cols) b coin =
-    byLine (lineOf k coin) (λ r. leafBasis K rows (rowBasis K k b r) (bitsLeft k coin)) (λ a. leafBasis K cols (colBasis K k b) (bitsLeft k coin))
+-- ---- how many are read
 
 -- As many symbols are read as that space has elements
 pub length-positions : {k : ℕ} (d : Dim k) (coin : ℕ) → length (positions d coin) ≡ 2 ^ leafDim d coin

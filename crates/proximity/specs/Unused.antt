@@ -13,7 +13,7 @@ use Rattle.proximity.specs.Proof.{row, column, rowProof, colProof}
 use Rattle.proximity.specs.Spaces.{rowBasis, colBasis}
 use Rattle.proximity.specs.declared.Line.{Line}
 use Rattle.proximity.specs.declared.Line.the-variants.{Row, Column}
-use Rattle.proximity.specs.Verifier.{lineOf, bitsLeft, byLine, positions, rowPlace, colPlace, Accepts}
+use Rattle.proximity.specs.Verifier.{lineOf, bitsLeft, byLine, positions, rowPlace, colPlace, Accepts, leafDim, leafBasis}
 use Rattle.proximity.specs.Lines.{line-cases, even-row, odd-column}
 
 -- The number of bits that a coin uses: none at k ≤ 6; at k ≥ 7 those of the line taken, and those that the bits left over use there
@@ -123,3 +123,16 @@ unused-accepts K (node {k = k} s rows cols) b w π coin other e =
     (λ a i. Accepts K cols (colBasis K k b) (column k w π a) (colProof k (size rows) (size cols) π a) i) (used rows) (used cols)
     (λ r i h. unused-accepts K rows (rowBasis K k b r) (row k w π r) (rowProof k (size rows) π r) (bitsLeft k coin) i h)
     (λ a i h. unused-accepts K cols (colBasis K k b) (column k w π a) (colProof k (size rows) (size cols) π a) (bitsLeft k coin) i h) e
+
+-- They end in the same space
+pub unused-dimension : {k : ℕ} (d : Dim k) (coin other : ℕ) → SameUsed d coin other → leafDim d other ≡ leafDim d coin
+unused-dimension (leaf s) coin other e = refl
+unused-dimension (node {k = k} s rows cols) coin other e =
+    follows k coin other (λ r i. leafDim rows i) (λ a i. leafDim cols i) (used rows) (used cols)
+    (λ r i h. unused-dimension rows (bitsLeft k coin) i h) (λ a i h. unused-dimension cols (bitsLeft k coin) i h) e
+
+pub unused-basis : (K : Ops) {k : ℕ} (d : Dim k) (b : List ℕ) (coin other : ℕ) → SameUsed d coin other → leafBasis K d b other ≡ leafBasis K d b coin
+unused-basis K (leaf s) b coin other e = refl
+unused-basis K (node {k = k} s rows cols) b coin other e =
+    follows k coin other (λ r i. leafBasis K rows (rowBasis K k b r) i) (λ a i. leafBasis K cols (colBasis K k b) i) (used rows) (used cols)
+    (λ r i h. unused-basis K rows (rowBasis K k b r) (bitsLeft k coin) i h) (λ a i h. unused-basis K cols (colBasis K k b) (bitsLeft k coin) i h) e

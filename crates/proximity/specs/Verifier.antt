@@ -70,3 +70,14 @@ positions (node {k = k} s rows cols) coin =
 abbrev pub readAt : List ℕ → List ℕ → Place → ℕ
 readAt w π (InWord i) = getD w i 0
 readAt w π (InProof i) = getD π i 0
+
+-- ---- the space at which a coin ends: its dimension and its basis
+
+abbrev pub leafDim : {k : ℕ} → Dim k → ℕ → ℕ
+leafDim (leaf {k = k} s) coin = k
+leafDim (node {k = k} s rows cols) coin = byLine (lineOf k coin) (λ r. leafDim rows (bitsLeft k coin)) (λ a. leafDim cols (bitsLeft k coin))
+
+abbrev pub leafBasis : (K : Ops) → {k : ℕ} → Dim k → List ℕ → ℕ → List ℕ
+leafBasis K (leaf s) b coin = b
+leafBasis K (node {k = k} s rows cols) b coin =
+    byLine (lineOf k coin) (λ r. leafBasis K rows (rowBasis K k b r) (bitsLeft k coin)) (λ a. leafBasis K cols (colBasis K k b) (bitsLeft k coin))

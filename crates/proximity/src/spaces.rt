@@ -5,11 +5,12 @@ use super::lines::line_of;
 use super::lines::rest_of;
 use space::CELLS;
 use space::Space;
+use space::upper::upper_images;
 ghost use mathlib.Core.Path.{_≡_};
 ghost use Prim.Native.Nat.{_+_, _≤_, _<_};
 ghost use lib.ListN.{length};
 ghost use Rattle.space.specs.Sizes.{maxDim, cells};
-ghost use Rattle.proximity.specs.LineImages.{addedRow, elementImages, rowImages, columnImages, LineTable};
+ghost use Rattle.proximity.specs.LineImages.{addedRow, elementImages, rowImages, LineTable};
 ghost use Rattle.proximity.specs.LeafTable.{LeafTable};
 
 // x with row i of the table added.
@@ -65,21 +66,6 @@ pub fn row_images(images: &[u16; CELLS], k: usize, r: usize) -> [u16; CELLS]
     t
 }
 
-// The table of each column: both indices shifted by h.
-pub fn column_images(images: &[u16; CELLS], k: usize) -> [u16; CELLS]
-    requires { ⌜ (7 ≤ k) × (k ≤ maxDim) × (length (now images) ≡ cells) ⌝ }
-    ensures { λ t. ⌜ t ≡ columnImages k (now (images .entry)) ⌝ }
-{
-    let shift = 17 * (k / 2);
-    let mut t = [0u16; CELLS];
-    let mut p = 0;
-    while p + shift < CELLS {
-        t[p] = images[p + shift];
-        p += 1;
-    }
-    t
-}
-
 // The table of a line.
 //
 // Ruled out: the table of the space for each row, since a row from 4 on has another last basis
@@ -90,7 +76,7 @@ pub fn line_images(images: &[u16; CELLS], k: usize, line: Line) -> [u16; CELLS]
 {
     match line {
         Line::Row(r) => row_images(images, k, r),
-        Line::Column(_) => column_images(images, k),
+        Line::Column(_) => upper_images(images, k / 2),
     }
 }
 

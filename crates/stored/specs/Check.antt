@@ -1,18 +1,14 @@
 -- What the checker over stored bytes answers: the file's checks, then 8, and then the verdict on the word and the proof of the file. Definitions only.
-use mathlib.Core.Path.{_≡_}
 use mathlib.Core.Bool.{Bool}
 use mathlib.Core.List.{List, [], _∷_, _++_}
 use Prim.Native.Nat.{ℕ, _+_, _^_, _≤_}
 use lib.ListN.{length}
 use Rattle.lists.specs.Answers.{Checks}
-use Rattle.field.specs.Laws.{Ops}
 use Rattle.field.specs.Symbols.{symbols}
 use Rattle.space.specs.Sizes.{maxDim}
-use Rattle.proximity.specs.Dim.{dim, S, R}
-use Rattle.proximity.specs.Verifier.{Accepts}
-use Rattle.verifier.specs.Checker.{readsOf, Answered}
+use Rattle.proximity.specs.Dim.{S, R}
+use Rattle.verifier.specs.Checker.{Answered}
 use Rattle.verifier.specs.declared.Verdict.{Verdict}
-use Rattle.verifier.specs.declared.Verdict.the-variants.{Accept, Reject, Refused}
 use Rattle.stored.specs.Bytes.{packedSize}
 use Rattle.stored.specs.File.{modulusIn, dimIn, basisIn, wordIn, proofIn}
 use Rattle.stored.specs.Reader.{fileChecks}
@@ -31,9 +27,3 @@ pub record Laid (t : Bool) (f : List ℕ) (k word proof : ℕ) : Type 0 where
   pub few : k ≤ maxDim
   pub word-fits : word + packedSize t (2 ^ k) ≤ length f
   pub proof-fits : proof + packedSize t (S k) ≤ length f
-
--- the verdict
-abbrev pub Judged : Ops → ℕ → List ℕ → List ℕ → List ℕ → ℕ → Verdict → Type 0
-Judged K k b w π coin (Accept n) = (n ≡ readsOf k coin) × Accepts K (dim k) b w π coin
-Judged K k b w π coin (Reject n) = (n ≡ readsOf k coin) × (Accepts K (dim k) b w π coin → ⊥)
-Judged K k b w π coin (Refused n) = ⊥

@@ -6,22 +6,22 @@ use mathlib.Core.List.{List, [], _∷_}
 use Prim.Native.Nat.{ℕ, _^_, _≤_, _<_}
 use native.Mathlib.Omega.{arith}
 use Rattle.lists.specs.All.{Below}
-use Rattle.lists.specs.Answers.{Checks, Passes, Refuses, answers-after, refused-first}
+use Rattle.lists.specs.Answers.{Checks, Answers, Passes, Refuses, answers-one, answers-after, refused-first}
 use Rattle.field.specs.Binary.{degree}
-use Rattle.field.specs.Laws.{Ops}
 use Rattle.field.specs.Symbols.{symbols}
 use Rattle.poly.specs.Codeword.{Basis}
 use Rattle.space.specs.Images.{Images}
 use Rattle.space.specs.Ready.{Ready}
 use Rattle.proximity.specs.Dim.{S, R}
-use Rattle.verifier.specs.Checker.{Answered}
+use Rattle.verifier.specs.Checker.{readChecks, OnCoin}
 use Rattle.verifier.specs.Parts.{InSpace, ready-space}
+use Rattle.verifier.specs.Verdicts.{answered-alike}
 use Rattle.verifier.specs.declared.Verdict.{Verdict}
-use Rattle.verifier.specs.declared.Verdict.the-variants.{Accept, Reject, Refused}
 use Rattle.stored.specs.Accepted.{Accepted, accepted, setting-passes, setting-ready, file-numbered, Places, read-places, told-accepted, told-refuses}
 use Rattle.stored.specs.Bytes.{numbersAt}
-use Rattle.stored.specs.Check.{coinChecks, AnsweredFile, Laid, Judged}
+use Rattle.stored.specs.Check.{coinChecks, AnsweredFile, Laid}
 use Rattle.stored.specs.File.{modulusIn, dimIn, basisIn, narrowIn, wordIn, proofIn}
+use Rattle.stored.specs.InRange.{reads-pass}
 use Rattle.stored.specs.Passed.{length-basis}
 use Rattle.stored.specs.Reader.{fileChecks, readOf, Told}
 use Rattle.stored.specs.declared.Reading.{Reading}
@@ -41,12 +41,6 @@ module _ (f : List ℕ) (coin : ℕ) where
 
   pub coin-passes : Passes (fileChecks f) → coin < 2 ^ R (dimIn f) → Passes (coinChecks f coin)
   coin-passes p h = answers-after (fileChecks f) eight 0 (file-numbered f) p (inr ((λ l. omega arith), refl))
-
--- the verdict, past the checks
-pub judged-answer : (cs : Checks) (K : Ops) (k : ℕ) (b w π : List ℕ) (coin : ℕ) (v : Verdict) → Passes cs → Judged K k b w π coin v → Answered cs K k b w π coin v
-judged-answer cs K k b w π coin (Accept n) p (e, a) = (p, e, a)
-judged-answer cs K k b w π coin (Reject n) p (e, a) = (p, e, a)
-judged-answer cs K k b w π coin (Refused n) p j = absurd j
 
 -- ---- an accepted file
 
@@ -95,18 +89,21 @@ module _ (f : List ℕ) (r : Reading) (t : Told (fileChecks f) f r) (z : r .refu
         proof-fits = omega (arith, places .proof, held .records .proof .present);
       }))
 
+  -- the word's symbols are in range
   pub read-below : Below (2 ^ degree (r .setting .field .modulus)) (numbersAt (r .narrow) f (r .word) (2 ^ r .setting .space .k))
-      × Below (2 ^ degree (r .setting .field .modulus)) (numbersAt (r .narrow) f (r .proof) (S (r .setting .space .k)))
-  read-below = (
-    transport (λ i. Below (2 ^ degree (sym modulus i)) (numbersAt (sym (places .narrow) i) f (sym (places .word) i) (2 ^ sym read-dimension i))) (held .records .word .symbols),
-    transport (λ i. Below (2 ^ degree (sym modulus i)) (numbersAt (sym (places .narrow) i) f (sym (places .proof) i) (S (sym read-dimension i)))) (held .records .proof .symbols),
-  )
+  read-below = transport (λ i. Below (2 ^ degree (sym modulus i)) (numbersAt (sym (places .narrow) i) f (sym (places .word) i) (2 ^ sym read-dimension i))) (held .records .word .symbols)
 
   -- the verdict is that on the word and the proof of the file
   pub read-answer : (coin : ℕ) → coin < 2 ^ R (dimIn f) → (v : Verdict)
-      → Judged (symbols (r .setting .field .modulus)) (r .setting .space .k) (basisIn f) (numbersAt (r .narrow) f (r .word) (2 ^ r .setting .space .k)) (numbersAt (r .narrow) f (r .proof) (S (r .setting .space .k))) coin v
+      → OnCoin (symbols (r .setting .field .modulus)) (r .setting .space .k) (basisIn f) (numbersAt (r .narrow) f (r .word) (2 ^ r .setting .space .k)) (numbersAt (r .narrow) f (r .proof) (S (r .setting .space .k))) coin v
       → AnsweredFile f coin v
   unfolding wordIn proofIn
   read-answer coin h v j =
-      judged-answer (coinChecks f coin) (symbols (modulusIn f)) (dimIn f) (basisIn f) (wordIn f) (proofIn f) coin v (coin-passes f coin read-passes h)
-      (transport (λ i. Judged (symbols (modulus i)) (read-dimension i) (basisIn f) (numbersAt (places .narrow i) f (places .word i) (2 ^ read-dimension i)) (numbersAt (places .narrow i) f (places .proof i) (S (read-dimension i))) coin v) j)
+      answered-alike (readChecks (symbols (modulusIn f)) (dimIn f) (wordIn f) (proofIn f) coin) (coinChecks f coin) both-pass (symbols (modulusIn f)) (dimIn f) (basisIn f) (wordIn f) (proofIn f) coin v
+      (transport (λ i. OnCoin (symbols (modulus i)) (read-dimension i) (basisIn f) (numbersAt (places .narrow i) f (places .word i) (2 ^ read-dimension i)) (numbersAt (places .narrow i) f (places .proof i) (S (read-dimension i))) coin v) j)
+    where
+      both-pass : (n : ℕ) → Answers (readChecks (symbols (modulusIn f)) (dimIn f) (wordIn f) (proofIn f) coin) n → Answers (coinChecks f coin) n
+      both-pass n a =
+          subst (Answers (coinChecks f coin))
+          (answers-one (readChecks (symbols (modulusIn f)) (dimIn f) (wordIn f) (proofIn f) coin) (reads-pass (modulusIn f) (dimIn f) (wordIn f) (proofIn f) coin (held .records .word .symbols) (held .records .proof .symbols)) a)
+          (coin-passes f coin read-passes h)

@@ -9,7 +9,7 @@ pub mod Packed
 pub mod Whole
 pub mod Written
 pub mod Check
-pub mod Leaf
+pub mod InRange
 pub mod CheckLaws
 pub mod OnSymbols
 pub mod Short

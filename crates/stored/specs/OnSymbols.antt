@@ -1,13 +1,13 @@
 -- On an accepted file the checker over stored bytes answers as the checker on symbols with the setting, the word and the proof of the file. Assumes nothing.
 use mathlib.Core.Path.{_≡_, refl, sym, subst}
 use mathlib.Core.Logic.{_⊎_, _↔_, inl, inr}
-use mathlib.Core.List.{List, _++_}
+use mathlib.Core.List.{List, [], _∷_, _++_}
 use Prim.Native.Nat.{ℕ, _^_, _≤_, _<_}
 use native.Mathlib.Decide.{decLe}
 use native.Mathlib.Omega.{arith}
 use lib.ListN.{length}
 use lib.Pow.{pow-pos}
-use Rattle.lists.specs.Answers.{Checks, Answers, Passes, answers-one, answers-after, numbered-append}
+use Rattle.lists.specs.Answers.{Checks, Answers, Passes, answers-one, answers-after, passes-each, numbered-append}
 use Rattle.field.specs.Binary.{degree}
 use Rattle.field.specs.Symbols.{symbols}
 use Rattle.space.specs.Setting.{settingChecks}
@@ -15,12 +15,16 @@ use Rattle.space.specs.Sound.{sound-passes, setting-numbered}
 use Rattle.proximity.specs.Dim.{dim, S, R}
 use Rattle.proximity.specs.Verifier.{positions}
 use Rattle.verifier.specs.Checker.{deliveryChecks, readChecks, checkerChecks, Answered, Told}
+use Rattle.verifier.specs.Rejected.{InBounds, told-bounds}
 use Rattle.verifier.specs.Verdicts.{answered-alike, told-delivery, delivery-passes}
+use Rattle.verifier.specs.declared.Rejection.{Rejection}
 use Rattle.verifier.specs.declared.Verdict.{Verdict}
+use Rattle.verifier.specs.declared.Verdict.the-variants.{Reject}
+use Rattle.stored.specs.Accepted.{file-numbered}
 use Rattle.stored.specs.Check.{coinChecks, AnsweredFile}
 use Rattle.stored.specs.CheckLaws.{refused-coin, coin-passes}
 use Rattle.stored.specs.File.{modulusIn, dimIn, basisIn, shiftIn, wordIn, proofIn}
-use Rattle.stored.specs.Leaf.{symbols-below}
+use Rattle.stored.specs.InRange.{symbols-below}
 use Rattle.stored.specs.Passed.{length-basis}
 use Rattle.stored.specs.Reader.{fileChecks}
 use Rattle.stored.specs.Whole.{Delivery, accepted-delivery}
@@ -88,3 +92,9 @@ module _ (f : List ℕ) (p : Passes (fileChecks f)) (coin : ℕ) where
     λ a. subst (λ (k : ℕ). Answered onBytes (symbols (modulusIn f)) k (basisIn f) (wordIn f) (proofIn f) coin v) (length-basis f)
         (answered-alike onSymbols onBytes to-bytes (symbols (modulusIn f)) (length (basisIn f)) (basisIn f) (wordIn f) (proofIn f) coin v a),
   )
+
+-- the numbers that come with a reject
+pub file-bounds : (f : List ℕ) (coin : ℕ) (r : Rejection) → AnsweredFile f coin (Reject r) → InBounds r
+file-bounds f coin r a =
+    let p : Passes (fileChecks f) = passes-each (fileChecks f) ((8, 2 ^ R (dimIn f) ≤ coin) ∷ []) (file-numbered f) (a .0) .0 in
+    told-bounds (modulusIn f) (basisIn f) (shiftIn f) (wordIn f) (proofIn f) coin r (file-answers f p coin (Reject r) .0 a)

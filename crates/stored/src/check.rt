@@ -5,28 +5,23 @@ use field::Field;
 use proximity::Place;
 use proximity::places;
 use proximity::spaces;
-use space::CELLS;
 use space::Space;
-use transform::blocks;
 use verifier::Verdict;
+use verifier::parts;
 ghost use mathlib.Core.Path.{_≡_};
 ghost use mathlib.Core.List.{List};
-ghost use Prim.Native.Nat.{ℕ, _^_, _≤_, _<_};
+ghost use Prim.Native.Nat.{ℕ, _^_, _<_};
 ghost use lib.ListN.{length, take};
-ghost use Rattle.lists.specs.All.{Below};
-ghost use Rattle.lists.specs.Decides.{Decides};
-ghost use Rattle.field.specs.Binary.{degree};
 ghost use Rattle.field.specs.Symbols.{symbols};
-ghost use Rattle.poly.specs.Codeword.{Basis, Codeword};
+ghost use Rattle.poly.specs.Codeword.{Basis};
 ghost use Rattle.space.specs.Images.{Images};
-ghost use Rattle.transform.specs.Blocks.{InBlocks};
 ghost use Rattle.proximity.specs.ByLine.{placeAt};
 ghost use Rattle.proximity.specs.Dim.{S};
 ghost use Rattle.proximity.specs.Verifier.{readAt};
-ghost use Rattle.verifier.specs.Checker.{symbolsAt, readsOf};
+ghost use Rattle.verifier.specs.Checker.{symbolsAt, readsOf, OnCoin};
 ghost use Rattle.verifier.specs.Parts.{InSpace};
 ghost use Rattle.stored.specs.Bytes.{numbersAt};
-ghost use Rattle.stored.specs.Check.{Laid, Judged};
+ghost use Rattle.stored.specs.Check.{Laid};
 
 fn no_symbols() -> [u16; 64]
     ensures { λ r. ⌜ length r ≡ 64 ⌝ }
@@ -75,17 +70,8 @@ fn symbols(
     out
 }
 
-// Whether the first 2^k symbols are a codeword.
-fn accepts(f: Field, k: usize, images: &[u16; CELLS], read: [u16; 64]) -> bool
-    requires { ⌜ InBlocks f (now images) k (take (2 ^ k) read) × (k ≤ 6) × (length read ≡ 64) ⌝ }
-    ensures { λ r. ⌜ ((b : List ℕ) → Basis (symbols (f .modulus)) k b → Images (symbols (f .modulus)) b (now (images .entry)) → Decides r (Codeword (symbols (f .modulus)) k b (take (2 ^ k) read))) ⌝ }
-{
-    let n = 1usize << k;
-    let mut work = no_symbols();
-    blocks::is_codeword(f, images, k, &read[..n], &mut work[..n])
-}
-
-// The verdict on the word and the proof whose symbols begin at the two indices.
+// The verdict on the word and the proof whose symbols begin at the two indices: that of the checker on
+// the symbols that the coin reads.
 pub fn verdict(
     f: Field,
     s: Space,
@@ -96,15 +82,13 @@ pub fn verdict(
     coin: u64,
 ) -> Verdict
     requires { ⌜ InSpace f (s .k) (s .images) × Laid narrow (now file) (s .k) word proof ⌝ }
-    requires { ⌜ Below (2 ^ degree (f .modulus)) (numbersAt narrow (now file) word (2 ^ s .k)) × Below (2 ^ degree (f .modulus)) (numbersAt narrow (now file) proof (S (s .k))) ⌝ }
-    ensures { λ v. ⌜ ((b : List ℕ) → Basis (symbols (f .modulus)) (s .k) b → Images (symbols (f .modulus)) b (s .images) → Judged (symbols (f .modulus)) (s .k) b (numbersAt narrow (now (file .entry)) word (2 ^ s .k)) (numbersAt narrow (now (file .entry)) proof (S (s .k))) coin v) ⌝ }
+    ensures { λ v. ⌜ ((b : List ℕ) → Basis (symbols (f .modulus)) (s .k) b → Images (symbols (f .modulus)) b (s .images) → OnCoin (symbols (f .modulus)) (s .k) b (numbersAt narrow (now (file .entry)) word (2 ^ s .k)) (numbersAt narrow (now (file .entry)) proof (S (s .k))) coin v) ⌝ }
 {
     let k = s.k;
     let t = spaces::leaf_space(&s.images, k, coin);
     let n = 1usize << t.k;
     let read = symbols(file, narrow, word, proof, k, coin, n);
-    if accepts(f, t.k, &t.images, read) {
-        return Verdict::Accept(n);
-    }
-    Verdict::Reject(n)
+    let short = &read[..n];
+    let none = &short[..0];
+    parts::check_word(f, t.k, &t.images, short, none, 0)
 }

@@ -162,7 +162,7 @@ pub fn proof_part<'a>(file: &'a [u8], number: &mut u8) -> &'a [u8]
 }
 
 // The checker for one coin over a stored file: the file's checks, then 8; then the verdict, with
-// the number of symbols read. It writes nothing.
+// the number of symbols read, and a reject with its degree and dimension. It writes nothing.
 //
 // Ruled out: 8 for a refused file with a coin out of range, since the file's checks come first; a
 // verdict on a file with a symbol out of range that the coin does not read, since that gets 9.

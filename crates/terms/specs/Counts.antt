@@ -29,7 +29,7 @@ one-count = answer.one-count
 module _ (f : List ℕ) (p : Passes (fileChecks f)) (r : ℕ) where
   accepts : (coin reads : ℕ) → HostAnswer f coin 0 reads 0 → Accepts (symbols (modulusIn f)) (dim (dimIn f)) (basisIn f) (wordIn f) (proofIn f) coin
   accepts coin reads (Accept n, (q, e, a), g, h) = a
-  accepts coin reads (Reject n, a, g, h) = absurd (omega arith)
+  accepts coin reads (Reject r, a, g, h) = absurd (omega arith)
   accepts coin reads (Refused n, (l, a), g, h) = absurd (omega arith)
 
   -- No coin of an accepted file rejects exactly where its word evaluates a polynomial of degree below an eighth of its length at the

@@ -12,6 +12,7 @@ use Rattle.field.specs.Binary.{degree}
 use Rattle.proximity.specs.Dim.{dim, S, R}
 use Rattle.proximity.specs.Verifier.{positions, readAt}
 use Rattle.verifier.specs.Checker.{Told}
+use Rattle.verifier.specs.declared.Rejection.{Rejection}
 use Rattle.verifier.specs.declared.Verdict.{Verdict}
 use Rattle.verifier.specs.declared.Verdict.the-variants.{Accept, Reject, Refused}
 use Rattle.stored.specs.Check.{coinChecks, AnsweredFile}
@@ -21,7 +22,7 @@ use Rattle.stored.specs.Passed.{length-basis}
 use Rattle.stored.specs.Reader.{fileChecks}
 use Rattle.stored.specs.Whole.{Delivery, accepted-delivery}
 use Rattle.prover.specs.Calls.{ProofAt}
-use Rattle.host.specs.Answer.{codeOf, readsAfter, HostAnswer}
+use Rattle.host.specs.Answer.{codeOf, readsAfter, HostAnswer, HostDegree}
 use Rattle.terms.specs.Answer.{same-answer}
 use Rattle.terms.specs.OneAnswer.{one-file-answer}
 use Rattle.terms.specs.Refusals.{refused-file-check}
@@ -63,6 +64,10 @@ module _ (f g : List ℕ) (pf : Passes (fileChecks f)) (pg : Passes (fileChecks 
   pub alike-from-c : (before after r : ℕ) → HostAnswer f coin before after r → HostAnswer g coin before after r
   alike-from-c before after r (v, a, e, h) = (v, alike-files v a, e, h)
 
+  -- and of the one that tells the degree.
+  pub alike-degree-from-c : (before after : Rejection) (r : ℕ) → HostDegree f coin before after r → HostDegree g coin before after r
+  alike-degree-from-c before after r (v, a, e, h) = (v, alike-files v a, e, h)
+
 -- ---- the call from C
 
 module _ (f : List ℕ) (coin before : ℕ) where
@@ -75,11 +80,11 @@ module _ (f : List ℕ) (coin before : ℕ) where
   -- The number tells the verdicts and the refusals apart: 0 accepts, 100 rejects, and a refusal has a number from 1 to 12.
   abbrev pub ToldApart : ℕ → ℕ → Type 0
   ToldApart after r =
-      ((r ≡ 0) × AnsweredFile f coin (Accept after)) ⊎ (((r ≡ 100) × AnsweredFile f coin (Reject after)) ⊎ ((r ≤ 12) × Refuses (coinChecks f coin) r × (after ≡ before)))
+      ((r ≡ 0) × AnsweredFile f coin (Accept after)) ⊎ (((r ≡ 100) × ((x : Rejection) × AnsweredFile f coin (Reject x) × (after ≡ x .reads))) ⊎ ((r ≤ 12) × Refuses (coinChecks f coin) r × (after ≡ before)))
 
   pub told-apart : (after r : ℕ) → HostAnswer f coin before after r → ToldApart after r
   told-apart after r (Accept n, a, e, h) = inl (e, subst (λ (x : ℕ). AnsweredFile f coin (Accept x)) (sym h) a)
-  told-apart after r (Reject n, a, e, h) = inr (inl (e, subst (λ (x : ℕ). AnsweredFile f coin (Reject x)) (sym h) a))
+  told-apart after r (Reject x, a, e, h) = inr (inl (e, (x, a, h)))
   told-apart after r (Refused n, a, e, h) = inr (inr (omega (arith, refused-file-check f coin n a .1), subst (Refuses (coinChecks f coin)) (sym e) a, h))
 
 -- Sentence 3, first part, of the call from C: an accepted file is accepted at every coin exactly where its word evaluates a polynomial of

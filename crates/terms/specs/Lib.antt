@@ -13,9 +13,10 @@ pub mod Shifts
 pub mod UnusedBits
 pub mod Dimensions
 pub mod Settings
-pub mod CaseVerdicts
 pub mod Cases
 pub mod Files
+pub mod Degrees
+pub mod CaseVerdicts
 pub mod Forms
 pub mod Parts
 pub mod Counts

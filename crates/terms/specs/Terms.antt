@@ -1,9 +1,9 @@
 -- The printed sentences. Each theorem is about what the calls' contracts say: `Told m bs σ w π coin v` is the contract of
 -- verifier's `check` for its answer v on the modulus m, the basis bs, the shift σ, the word w, the proof π and the coin. Sentence 2 for the
--- other calls: Agreement.antt; what does not depend on the shift: Shifts.antt; stored files and the call from C: Files.antt; the coin
+-- other calls: Agreement.antt; the degree behind a reject: Degrees.antt; what does not depend on the shift: Shifts.antt; stored files and the call from C: Files.antt; the coin
 -- counter: Counts.antt; from coefficients to a stored file: Deliveries.antt. The unused bits of a coin: UnusedBits.antt. That there are
 -- sound settings and accepted pairs: Settings.antt.
-use mathlib.Core.Path.{_≡_, refl, subst}
+use mathlib.Core.Path.{_≡_, refl, _∙_, subst}
 use mathlib.Core.Logic.{_⊎_, _↔_, inl, inr}
 use mathlib.Core.List.{List, _++_, map}
 use Prim.Native.Nat.{ℕ, _^_, _≤_, _<_}
@@ -24,6 +24,7 @@ use Rattle.proximity.specs.Verifier.{Accepts, positions, readAt}
 use Rattle.proximity.specs.Verdict.{accepted-sym}
 use Rattle.verifier.specs.Checker.{symbolsAt, readsOf, checkerChecks, Told}
 use Rattle.verifier.specs.Verdicts.{told-coin, delivery-passes}
+use Rattle.verifier.specs.declared.Rejection.{Rejection}
 use Rattle.verifier.specs.declared.Verdict.{Verdict}
 use Rattle.verifier.specs.declared.Verdict.the-variants.{Accept, Reject}
 use Rattle.codec.specs.Calls.{wordChecks}
@@ -109,11 +110,11 @@ pub at-most-64-reads : (k coin : ℕ) → length (positions (dim k) coin) ≤ 64
 at-most-64-reads k coin = few-reads (dim k) coin
 
 -- and the number that comes with a verdict, accept or reject, is theirs.
-pub reads-told : (m : ℕ) (bs : List ℕ) (σ : ℕ) (w π : List ℕ) (coin n : ℕ) → Told m bs σ w π coin (Accept n) ⊎ Told m bs σ w π coin (Reject n) → n ≡ length (positions (dim (length bs)) coin)
+pub reads-told : (m : ℕ) (bs : List ℕ) (σ : ℕ) (w π : List ℕ) (coin n : ℕ) → Told m bs σ w π coin (Accept n) ⊎ ((r : Rejection) × Told m bs σ w π coin (Reject r) × (n ≡ r .reads)) → n ≡ length (positions (dim (length bs)) coin)
 reads-told m bs σ w π coin n (inl (p, e, a)) = e
-reads-told m bs σ w π coin n (inr (p, e, a)) = e
+reads-told m bs σ w π coin n (inr (r, (p, e, a, g, d), h)) = h ∙ e
 
--- Two deliveries of the right lengths alike at these positions get the same answer at that coin, a refusal included.
+-- Two deliveries of the right lengths alike at these positions get the same answer at that coin, a refusal and the degree behind a reject included.
 pub alike-at-the-positions : (m : ℕ) (bs : List ℕ) (σ : ℕ) (w π v ρ : List ℕ) (coin : ℕ) → length w ≡ 2 ^ length bs → length π ≡ S (length bs) → length v ≡ 2 ^ length bs → length ρ ≡ S (length bs)
     → map (readAt w π) (positions (dim (length bs)) coin) ≡ map (readAt v ρ) (positions (dim (length bs)) coin)
     → (answer : Verdict) → Told m bs σ w π coin answer → Told m bs σ v ρ coin answer

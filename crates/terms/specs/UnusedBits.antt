@@ -1,6 +1,6 @@
 -- Unused bits change nothing. `used (dim k) coin` is the number of bits that the coin uses, from bit 0 up; two coins of one setting that
 -- agree in these bits have the same positions and get the same answer.
-use mathlib.Core.Path.{_≡_, sym, ap, _∙_, subst, transport}
+use mathlib.Core.Path.{_≡_, sym, subst, transport}
 use mathlib.Core.Logic.{_⊎_, _↔_, inl, inr}
 use mathlib.Core.List.{List, [], _∷_, _++_, map}
 use Prim.Native.Nat.{ℕ, _^_, _%_, _≤_, _<_}
@@ -14,15 +14,16 @@ use Rattle.space.specs.Setting.{settingChecks}
 use Rattle.proximity.specs.Dim.{dim, S, R}
 use Rattle.proximity.specs.Unused as unused
 use Rattle.proximity.specs.Unused.{used, SameUsed, same-used-back}
-use Rattle.proximity.specs.Verifier.{Accepts, positions, readAt}
+use Rattle.proximity.specs.Verifier.{Accepts, positions, readAt, leafDim, leafBasis}
 use Rattle.proximity.specs.declared.Place.{Place}
-use Rattle.verifier.specs.Checker.{readChecks, checkerChecks, Answered, Told}
+use Rattle.verifier.specs.Checker.{readChecks, checkerChecks, Judged, Answered, Told}
+use Rattle.verifier.specs.Verdicts.{answered-alike}
+use Rattle.verifier.specs.declared.Rejection.{Rejection}
 use Rattle.verifier.specs.declared.Verdict.{Verdict}
-use Rattle.verifier.specs.declared.Verdict.the-variants.{Accept, Reject, Refused}
 use Rattle.stored.specs.Check.{coinChecks, AnsweredFile}
 use Rattle.stored.specs.File.{modulusIn, dimIn, basisIn, wordIn, proofIn}
 use Rattle.stored.specs.Reader.{fileChecks}
-use Rattle.host.specs.Answer.{HostAnswer}
+use Rattle.host.specs.Answer.{HostAnswer, HostDegree}
 
 -- A coin uses at most R(k) bits, none where k ≤ 6.
 pub used-bits : (k coin : ℕ) → used (dim k) coin ≤ R k
@@ -48,14 +49,19 @@ module _ (K : Ops) (k : ℕ) (bs w π : List ℕ) (coin other : ℕ) (same : Sam
   accepts : Accepts K (dim k) bs w π other ≡ Accepts K (dim k) bs w π coin
   accepts = unused.unused-accepts K (dim k) bs w π coin other same
 
+  dimensions : leafDim (dim k) coin ≡ leafDim (dim k) other
+  dimensions = sym (unused.unused-dimension (dim k) coin other same)
+
+  bases : leafBasis K (dim k) bs coin ≡ leafBasis K (dim k) bs other
+  bases = sym (unused.unused-basis K (dim k) bs coin other same)
+
   same-reads : (n : ℕ) → Answers (readChecks K k w π coin) n → Answers (readChecks K k w π other) n
   same-reads n = subst (λ (ps : List Place). Answers ((9, (All (K .Sym) (map (readAt w π) ps) → ⊥)) ∷ []) n) places
 
   -- by any two tables of checks of which the second gives the number of the first
   same-answered : (cs ds : Checks) → ((n : ℕ) → Answers cs n → Answers ds n) → (v : Verdict) → Answered cs K k bs w π coin v → Answered ds K k bs w π other v
-  same-answered cs ds f (Accept n) (p, e, a) = (f 0 p, e ∙ ap length places, transport (sym accepts) a)
-  same-answered cs ds f (Reject n) (p, e, a) = (f 0 p, e ∙ ap length places, λ t. a (transport accepts t))
-  same-answered cs ds f (Refused n) (l, a) = (l, f n a)
+  same-answered cs ds f v a =
+      transport (λ i. Judged ds K (sym accepts i) (length (places i)) (dimensions i) (bases i) (map (readAt w π) (places i)) v) (answered-alike cs ds f K k bs w π coin v a)
 
 -- The checker: two coins below 2^R(k) that agree in the used bits get the same answer, a refusal included.
 module _ (m : ℕ) (bs : List ℕ) (σ : ℕ) (w π : List ℕ) where
@@ -81,6 +87,9 @@ module _ (f : List ℕ) where
     pub unused-bits-of-file : (answer : Verdict) → AnsweredFile f coin answer ↔ AnsweredFile f other answer
     unused-bits-of-file v = (onward-in-file coin other h l same v, onward-in-file other coin l h (same-used-back (dim (dimIn f)) coin other same) v)
 
-    -- and the call from C.
+    -- and the calls from C.
     pub unused-bits-from-c : (before after r : ℕ) → HostAnswer f coin before after r ↔ HostAnswer f other before after r
     unused-bits-from-c before after r = ((λ (v, a, e, g). (v, unused-bits-of-file v .0 a, e, g)), λ (v, a, e, g). (v, unused-bits-of-file v .1 a, e, g))
+
+    pub unused-bits-degree : (before after : Rejection) (r : ℕ) → HostDegree f coin before after r ↔ HostDegree f other before after r
+    unused-bits-degree before after r = ((λ (v, a, e, g). (v, unused-bits-of-file v .0 a, e, g)), λ (v, a, e, g). (v, unused-bits-of-file v .1 a, e, g))

@@ -63,7 +63,7 @@ module _ (q : ℕ) (irr : Irreducible q) (images : List ℕ) where
 
       inverse-block : (d : List ℕ) → inverse K (imageAt images) (k - 3) (blockImage q images k r) d ≡ inverse K (table K b) (k - 3) (imagesOf K b (blockShift K k b r)) d
       inverse-block d =
-          inverse-ext K (imageAt images) (table K b) (k - 3) same-table (k - 3) (le-refl (k - 3)) (blockImage q images k r) (imagesOf K b (blockShift K k b r)) d same-shift
+          inverse-ext K (imageAt images) (table K b) (k - 3) (λ i j hi hj. same-table i j hi (omega arith)) (k - 3) (le-refl (k - 3)) (blockImage q images k r) (imagesOf K b (blockShift K k b r)) d same-shift
 
       transform-block : (d : List ℕ) → transform K (imageAt images) (k - 3) (blockImage q images k r) d ≡ blockValues K k b d r
       transform-block d =

@@ -5,12 +5,12 @@ use mathlib.Core.List.{List}
 use Prim.Native.Nat.{ℕ, _+_, _-_, _*_, _/_, _%_, _^_, _≤_, _<_}
 use native.Mathlib.Nat.{mul-comm, div-lt-iff-lt-mul, mod-lt, div-add-mod'}
 use native.Mathlib.Omega.{arith}
-use lib.ListN.{length, getD, take, drop, length-take}
+use lib.ListN.{length, getD, drop}
 use lib.Pow.{pow-pos}
 use Rattle.lists.specs.All.{All, Below, All-at, All-of, All-take, All-drop}
 use Rattle.lists.specs.Decides.{Decides, decides-same}
 use Rattle.lists.specs.Tables.{part, getD-part}
-use Rattle.lists.specs.Lanes.{lane, getD-lane, lane-take, lanes-each}
+use Rattle.lists.specs.Lanes.{lane, getD-lane, lanes-each}
 use Rattle.field.specs.Binary.{degree, Irreducible}
 use Rattle.field.specs.Symbols.{symbols, symbols-field}
 use Rattle.field.specs.declared.Field.{Field}
@@ -20,7 +20,7 @@ use Rattle.poly.specs.Codeword.{Basis, Codeword}
 use Rattle.poly.specs.Blocks.{blockShift, blockCoeffs, codeword-blocks}
 use Rattle.space.specs.Images.{Images}
 use Rattle.transform.specs.Slices.{Transposed}
-use Rattle.transform.specs.Blocks.{InBlocks, block, BlocksInterpolated, EqualLanes, Tested, TestedLanes}
+use Rattle.transform.specs.Blocks.{InBlocks, block, BlocksInterpolated, EqualLanes, Tested}
 use Rattle.transform.proofs.BlockLaws.{eight}
 
 -- the size of a block
@@ -34,7 +34,7 @@ module _ (q : ℕ) (irr : Irreducible q) (images : List ℕ) (k : ℕ) (hk : 3 �
   n = 2 ^ (k - 3)
 
   -- the word of the blocks has symbols
-  word-below : Below (2 ^ degree q) word
+  pub word-below : Below (2 ^ degree q) word
   word-below = All-of (λ x. x < 2 ^ degree q) word 0 (λ p h. at p (omega (arith, eight k hk, mul-comm n 8)))
     where
       at : (p : ℕ) → p < 8 * n → getD word p 0 < 2 ^ degree q
@@ -98,16 +98,3 @@ module _ (f : Field) (images : List ℕ) (k : ℕ) (word : List ℕ) (pre : InBl
     where
       equal : Decides answer (EqualLanes (2 ^ (k - 3)) new)
       equal = subst (λ (n : ℕ). Decides answer (EqualLanes n new)) (eighth k (pre .low) new (s .kept ∙ work-blocks .long)) d
-
--- ---- a short word in lanes
-
-module _ (f : Field) (images : List ℕ) (k : ℕ) (xs : List ℕ) (pre : InBlocks f images k (take (2 ^ k) xs)) where
-  pub short-fits : 2 ^ k ≤ length xs
-  short-fits = omega (arith, pre .long, length-take (2 ^ k) xs)
-
-  pub short-tested : (new : List ℕ) (answer : Bool) → BlocksInterpolated (f .modulus) images k (take (2 ^ k) xs) new → Decides answer (EqualLanes (length new / 8) new)
-      → TestedLanes (f .modulus) images k xs answer
-  short-tested new answer s d b B I word lw e =
-      codeword-test (f .modulus) (pre .irreducible) images k (pre .low) (take (2 ^ k) xs) new (pre .symbols) s b B I word lw
-      (λ r h. lane-take 8 r (2 ^ (k - 3)) (2 ^ k) h (eight k (pre .low)) xs ∙ e r h) answer
-      (subst (λ (n : ℕ). Decides answer (EqualLanes n new)) (eighth k (pre .low) new (s .kept ∙ pre .long)) d)

@@ -2,6 +2,7 @@
 pub mod Alike
 pub mod BlockLaws
 pub mod CodewordTest
+pub mod DegreeLaws
 pub mod Halves
 pub mod Layers
 pub mod Scaling

@@ -66,9 +66,3 @@ pub record Tested (q : ℕ) (images : List ℕ) (k : ℕ) (word : List ℕ) (ans
   pub decides : (b : List ℕ) → Basis (symbols q) k b → Images (symbols q) b images → Decides answer (Codeword (symbols q) k b word)
   pub coeffs : (b : List ℕ) → Basis (symbols q) k b → Images (symbols q) b images → (r : ℕ) → r < 8 → block k r work ≡ blockCoeffs (symbols q) k b word r
   pub below : Below (2 ^ degree q) work
-
--- the answer for the word whose eight blocks are the lanes of xs
-abbrev pub TestedLanes : ℕ → List ℕ → ℕ → List ℕ → Bool → Type 0
-TestedLanes q images k xs answer =
-    (b : List ℕ) → Basis (symbols q) k b → Images (symbols q) b images → (word : List ℕ) → length word ≡ 2 ^ k
-    → ((r : ℕ) → r < 8 → block k r xs ≡ part (2 ^ (k - 3)) r word) → Decides answer (Codeword (symbols q) k b word)

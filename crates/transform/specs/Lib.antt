@@ -1,5 +1,6 @@
--- The transform on lanes and the codeword test.
+-- The transform on lanes, the codeword test, and the degree of a short word.
 pub mod Blocks
+pub mod Degree
 pub mod Lanes
 pub mod Layers
 pub mod Slices

@@ -8,11 +8,11 @@ use field::Field;
 use space::CELLS;
 ghost use mathlib.Core.Path.{_≡_};
 ghost use mathlib.Core.Logic.{_↔_};
-ghost use Prim.Native.Nat.{ℕ, _/_, _<_, _≤_, _^_};
-ghost use lib.ListN.{length, getD, take};
+ghost use Prim.Native.Nat.{ℕ, _/_, _<_};
+ghost use lib.ListN.{length, getD};
 ghost use Rattle.lists.specs.Decides.{Decides};
 ghost use Rattle.transform.specs.Spans.{Zeros};
-ghost use Rattle.transform.specs.Blocks.{InBlocks, BlocksInterpolated, BlocksEvaluated, EqualLanes, Tested, TestedLanes};
+ghost use Rattle.transform.specs.Blocks.{InBlocks, BlocksInterpolated, BlocksEvaluated, EqualLanes, Tested};
 
 // The images of 0.
 pub fn no_shift() -> [u16; 16]
@@ -83,15 +83,4 @@ pub fn is_codeword(
     transpose(word, 8, word.len() / 8, work);
     interpolate_blocks(f, images, k, work);
     equal_lanes(work)
-}
-
-// The same for a word of at most 64 symbols that is given in lanes.
-pub fn short_codeword(f: Field, k: usize, images: &[u16; CELLS], symbols: [u16; 64]) -> bool
-    requires { ⌜ InBlocks f (now images) k (take (2 ^ k) symbols) × (k ≤ 6) ⌝ }
-    ensures { λ r. ⌜ TestedLanes (f .modulus) (now (images .entry)) k symbols r ⌝ }
-{
-    let n = 1usize << k;
-    let mut work = symbols;
-    interpolate_blocks(f, images, k, &mut work[..n]);
-    equal_lanes(&work[..n])
 }

@@ -10,8 +10,9 @@ use Rattle.poly.specs.Codeword.{Basis}
 use Rattle.space.specs.Images.{Images}
 use Rattle.proximity.specs.Dim.{dim, S}
 use Rattle.proximity.specs.LeafTable.{LeafTable, leaf-low}
-use Rattle.proximity.specs.Reads.{leafBasis, leaf-small, length-positions}
+use Rattle.proximity.specs.Reads.{leaf-small, length-positions}
 use Rattle.proximity.specs.Verdict.{leaf-basis}
+use Rattle.proximity.specs.Verifier.{leafBasis}
 use Rattle.verifier.specs.Checker.{OnCoin, symbolsAt, readsOf}
 use Rattle.verifier.specs.OnCoin.{on-leaf}
 use Rattle.verifier.specs.Parts.{InSpace}

@@ -2,4 +2,5 @@
 pub mod Checker
 pub mod OnCoin
 pub mod Parts
+pub mod Rejected
 pub mod Verdicts

@@ -5,45 +5,33 @@ use Prim.Native.Nat.{ℕ, _*_, _^_, _≤_}
 use native.Mathlib.Omega.{arith}
 use lib.ListN.{length, length-map}
 use Rattle.lists.specs.All.{All}
-use Rattle.lists.specs.Answers.{Passes, Refuses}
 use Rattle.lists.specs.Members.{map-through, map-tab}
 use Rattle.lists.specs.Tables.{tab, tab-of, length-tab}
 use Rattle.field.specs.Laws.{Ops}
 use Rattle.poly.specs.Codeword.{Codeword}
 use Rattle.proximity.specs.ByLine.{InRange, lineDim, lineBasis, lineWord, lineProof, linePlace, placeAt}
 use Rattle.proximity.specs.Dim.{dim, S}
+use Rattle.proximity.specs.LeafTable.{leafDim-line, leafBasis-line}
 use Rattle.proximity.specs.LineLaws.{accepts-of-line, positions-of-line, line-in-range}
 use Rattle.proximity.specs.PlaceLaws.{positions-table}
-use Rattle.proximity.specs.Reads.{Inside, read-row, read-col, positions-inside, leafDim, leafBasis, leaf-small, length-positions, reads}
+use Rattle.proximity.specs.Places.{leafDim-leaf, leafBasis-leaf}
+use Rattle.proximity.specs.Reads.{Inside, read-row, read-col, positions-inside, leaf-small, length-positions, reads}
 use Rattle.proximity.specs.Steps.{accepts-leaf, positions-leaf}
 use Rattle.proximity.specs.Tree.{S-node}
-use Rattle.proximity.specs.Verifier.{Accepts, positions, readAt, lineOf, bitsLeft}
+use Rattle.proximity.specs.Verifier.{positions, readAt, lineOf, bitsLeft, leafDim, leafBasis}
 use Rattle.proximity.specs.declared.Line.{Line}
 use Rattle.proximity.specs.declared.Line.the-variants.{Row, Column}
 use Rattle.proximity.specs.declared.Place.{Place}
 use Rattle.proximity.specs.declared.Place.the-variants.{InWord}
-use Rattle.verifier.specs.Checker.{symbolsAt, readsOf, OnCoin}
+use Rattle.verifier.specs.Checker.{symbolsAt, readsOf, Judged, OnCoin}
 use Rattle.verifier.specs.declared.Verdict.{Verdict}
-use Rattle.verifier.specs.declared.Verdict.the-variants.{Accept, Reject, Refused}
 
--- an answer by the symbols read, their number and the sentence of acceptance
-abbrev pub By : Ops → List ℕ → ℕ → Type 0 → Verdict → Type 0
-By K xs n P (Accept r) = Passes ((9, (All (K .Sym) xs → ⊥)) ∷ []) × (r ≡ n) × P
-By K xs n P (Reject r) = Passes ((9, (All (K .Sym) xs → ⊥)) ∷ []) × (r ≡ n) × (P → ⊥)
-By K xs n P (Refused r) = Refuses ((9, (All (K .Sym) xs → ⊥)) ∷ []) r
+-- past checks 1 to 8 the answer hangs on the symbols read, their number, their space and the sentence of acceptance alone
+abbrev pub By : Ops → Type 0 → ℕ → ℕ → List ℕ → List ℕ → Verdict → Type 0
+By K A n m b xs = Judged ((9, (All (K .Sym) xs → ⊥)) ∷ []) K A n m b xs
 
-to-by : (K : Ops) (k : ℕ) (b w π : List ℕ) (coin : ℕ) (v : Verdict) → OnCoin K k b w π coin v → By K (symbolsAt k w π coin) (readsOf k coin) (Accepts K (dim k) b w π coin) v
-to-by K k b w π coin (Accept n) a = a
-to-by K k b w π coin (Reject n) a = a
-to-by K k b w π coin (Refused n) a = a
-
-of-by : (K : Ops) (k : ℕ) (b w π : List ℕ) (coin : ℕ) (v : Verdict) → By K (symbolsAt k w π coin) (readsOf k coin) (Accepts K (dim k) b w π coin) v → OnCoin K k b w π coin v
-of-by K k b w π coin (Accept n) a = a
-of-by K k b w π coin (Reject n) a = a
-of-by K k b w π coin (Refused n) a = a
-
-by-same : (K : Ops) {xs ys : List ℕ} {m n : ℕ} {P Q : Type 0} → xs ≡ ys → m ≡ n → P ≡ Q → (v : Verdict) → By K xs m P v → By K ys n Q v
-by-same K ex em ep v = transport (λ i. By K (ex i) (em i) (ep i) v)
+by-same : (K : Ops) {A B : Type 0} {n n′ m m′ : ℕ} {b b′ xs ys : List ℕ} → A ≡ B → n ≡ n′ → m ≡ m′ → b ≡ b′ → xs ≡ ys → (v : Verdict) → By K A n m b xs v → By K B n′ m′ b′ ys v
+by-same K ea en em eb ex v = transport (λ i. By K (ea i) (en i) (em i) (eb i) (ex i) v)
 
 -- the symbols that a coin reads, by number
 pub symbols-table : (k : ℕ) (w π : List ℕ) (coin : ℕ) → tab (readsOf k coin) (λ (i : ℕ). readAt w π (placeAt k coin i)) ≡ symbolsAt k w π coin
@@ -72,10 +60,8 @@ module _ (k : ℕ) (s : 7 ≤ k) (w π : List ℕ) (lw : length w ≡ 2 ^ k) (l�
     reads-line = sym (ap length (positions-of-line k s coin l e) ∙ length-map (positions (dim (lineDim k l)) (bitsLeft k coin)) (linePlace k l))
 
     pub on-line : (K : Ops) (b : List ℕ) (v : Verdict) → OnCoin K (lineDim k l) (lineBasis K k b l) (lineWord k w π l) (lineProof k π l) (bitsLeft k coin) v → OnCoin K k b w π coin v
-    on-line K b v a =
-        of-by K k b w π coin v
-        (by-same K symbols-line reads-line (sym (accepts-of-line k s K b w π coin l e)) v
-        (to-by K (lineDim k l) (lineBasis K k b l) (lineWord k w π l) (lineProof k π l) (bitsLeft k coin) v a))
+    on-line K b v =
+        by-same K (sym (accepts-of-line k s K b w π coin l e)) reads-line (sym (leafDim-line k coin s l e)) (sym (leafBasis-line k coin s K b l e)) symbols-line v
 
 -- a short word is read whole
 module _ (K : Ops) (k : ℕ) (s : k ≤ 6) (b w π : List ℕ) (lw : length w ≡ 2 ^ k) (coin : ℕ) where
@@ -85,8 +71,8 @@ module _ (K : Ops) (k : ℕ) (s : k ≤ 6) (b w π : List ℕ) (lw : length w �
   reads-short : 2 ^ k ≡ readsOf k coin
   reads-short = sym (ap length (positions-leaf k s coin) ∙ length-tab (2 ^ k) InWord)
 
-  pub on-short : (v : Verdict) → By K w (2 ^ k) (Codeword K k b w) v → OnCoin K k b w π coin v
-  on-short v a = of-by K k b w π coin v (by-same K symbols-short reads-short (sym (accepts-leaf K k b w π s coin)) v a)
+  pub on-short : (v : Verdict) → By K (Codeword K k b w) (2 ^ k) k b w v → OnCoin K k b w π coin v
+  on-short = by-same K (sym (accepts-leaf K k b w π s coin)) reads-short (sym (leafDim-leaf k coin s)) (sym (leafBasis-leaf K k coin s b)) symbols-short
 
 -- the symbols that a coin reads are a short word over the space at which it ends
 module _ (K : Ops) (k : ℕ) (b w π : List ℕ) (lw : length w ≡ 2 ^ k) (lπ : length π ≡ S k) (coin : ℕ) where
@@ -102,9 +88,10 @@ module _ (K : Ops) (k : ℕ) (b w π : List ℕ) (lw : length w ≡ 2 ^ k) (lπ 
   long : length read ≡ 2 ^ m
   long = length-map (positions (dim k) coin) (readAt w π) ∙ length-positions (dim k) coin
 
+  small : m ≤ 6
+  small = leaf-small (dim k) coin
+
   pub on-leaf : (ρ : List ℕ) (c : ℕ) (v : Verdict) → OnCoin K m basis read ρ c v → OnCoin K k b w π coin v
-  on-leaf ρ c v a =
-      of-by K k b w π coin v
-      (by-same K (sym (symbols-short K m (leaf-small (dim k) coin) basis read ρ long c)) (sym (reads-short K m (leaf-small (dim k) coin) basis read ρ long c) ∙ sym (length-positions (dim k) coin))
-      (accepts-leaf K m basis read ρ (leaf-small (dim k) coin) c ∙ sym (reads K (dim k) b w π lw lπ coin)) v
-      (to-by K m basis read ρ c v a))
+  on-leaf ρ c =
+      by-same K (accepts-leaf K m basis read ρ small c ∙ sym (reads K (dim k) b w π lw lπ coin)) (sym (reads-short K m small basis read ρ long c) ∙ sym (length-positions (dim k) coin))
+      (leafDim-leaf m c small) (leafBasis-leaf K m c small basis) (sym (symbols-short K m small basis read ρ long c))

@@ -18,11 +18,11 @@ use Rattle.verifier.specs.declared.Verdict.the-variants.{Accept, Reject,
 
 -- tables that give the same number give the same answer
 pub answered-alike : (cs ds : Checks) → ((r : ℕ) → Answers cs r → Answers ds r) → (K : Ops) (k : ℕ) (b w π : List ℕ) (coin : ℕ) (v : Verdict) → Answered cs K k b w π coin v → Answered ds K k b w π coin v
-answered-alike cs ds f K k b w π coin (Accept n) (p, e, a) = (f 0 p, e, a)
-answered-alike cs ds f K k b w π coin (Reject n) (p, e, a) = (f 0 p, e, a)
-answered-alike cs ds f K k b w π coin (Refused n) (l, a) = (l, f n a)
+answered-alike cs ds f K k b w π coin (Accept r) (p, e, a) = (f 0 p, e, a)
+answered-alike cs ds f K k b w π coin (Reject r) (p, e, a, g, d) = (f 0 p, e, a, g, d)
+answered-alike cs ds f K k b w π coin (Refused r) (l, a) = (l, f r a)
 
-delivery-numbered : (k w p coin : ℕ) → Numbered (deliveryChecks k w p coin)
+pub delivery-numbered : (k w p coin : ℕ) → Numbered (deliveryChecks k w p coin)
 delivery-numbered k w p coin = (omega arith, (omega arith, tt))
 
 -- right lengths and a coin in range
@@ -63,6 +63,4 @@ module _ (m : ℕ) (bs : List ℕ) (σ : ℕ) (w π : List ℕ) (coin : ℕ) whe
   after p d n a = answers-after (settingChecks m bs σ ++ delivery) reading n (numbered-append (settingChecks m bs σ) delivery (setting-numbered m bs σ) (delivery-numbered (length bs) (length w) (length π) coin)) (both p 0 d) a
 
   pub told-coin : Passes (settingChecks m bs σ) → Passes delivery → (v : Verdict) → OnCoin (symbols m) (length bs) bs w π coin v → Told m bs σ w π coin v
-  told-coin p d (Accept n) (a, r, s) = (after p d 0 a, r, s)
-  told-coin p d (Reject n) (a, r, s) = (after p d 0 a, r, s)
-  told-coin p d (Refused n) (l, a) = (l, after p d n a)
+  told-coin p d = answered-alike reading (checkerChecks m bs σ w π coin) (after p d) (symbols m) (length bs) bs w π coin

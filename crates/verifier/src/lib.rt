@@ -9,10 +9,19 @@ ghost use Rattle.lists.specs.Answers.{Answers};
 ghost use Rattle.space.specs.Sizes.{maxDim};
 ghost use Rattle.verifier.specs.Checker.{deliveryChecks, Told};
 
-// The verdict with the number of symbols read, or the number of a refusal.
+// What a reject tells of the short word at which the coin ends: how many symbols were read, the least
+// degree of a polynomial through them, and the dimension of their space.
+pub struct Rejection {
+    pub reads: usize,
+    pub degree: usize,
+    pub dimension: usize,
+}
+
+// The verdict with the number of symbols read, a reject with the degree behind it; or the number of
+// a refusal.
 pub enum Verdict {
     Accept(usize),
-    Reject(usize),
+    Reject(Rejection),
     Refused(u8),
 }
 
@@ -34,7 +43,8 @@ fn delivery_refusal(k: usize, word: usize, proof: usize, coin: u64) -> u8
 }
 
 // The checker for one coin: checks 1 to 6, 8, and 9 of the symbols that the coin reads; then the
-// verdict, with the number of symbols read. It writes nothing. Past check 4 the shift changes nothing:
+// verdict, with the number of symbols read; a reject also tells the least degree of a polynomial through
+// them, and the dimension of their space. It writes nothing. Past check 4 the shift changes nothing:
 // rows and columns are those of the span.
 //
 // Word and proof are read at the coin's positions alone. Two functions read them: `gather::symbols`,
@@ -42,7 +52,8 @@ fn delivery_refusal(k: usize, word: usize, proof: usize, coin: u64) -> u8
 // the coin reads whole. All others lend parts on.
 //
 // Ruled out: accept for a pair whose row or column at this coin is no codeword, as a checker would
-// say that waves columns through; 9 for a symbol that the coin does not read.
+// say that waves columns through; 9 for a symbol that the coin does not read; the dimension of the
+// whole word with a reject.
 pub fn check<'a>(
     modulus: u32,
     basis: &[u16],

@@ -1,4 +1,5 @@
 // The check of a word and its proof by the bits of a coin.
+use super::Rejection;
 use super::Verdict;
 use super::blocks;
 use super::gather;
@@ -8,6 +9,8 @@ use proximity::Line;
 use proximity::lines;
 use proximity::spaces;
 use space::CELLS;
+use transform::degree::DegreeTest;
+use transform::degree::least_degree;
 ghost use mathlib.Core.Path.{_≡_};
 ghost use mathlib.Core.List.{List};
 ghost use Prim.Native.Nat.{ℕ, _-_, _/_, _^_, _≤_};
@@ -21,16 +24,25 @@ ghost use Rattle.verifier.specs.Checker.{OnCoin};
 ghost use Rattle.verifier.specs.OnCoin.{By};
 ghost use Rattle.verifier.specs.Parts.{InSpace, Lent, joined, noSymbols};
 
-// The verdict on a short word that is given in lanes: all its symbols are read.
+// The verdict on a short word that is given in lanes: all its symbols are read. A reject tells its
+// least degree and its dimension.
 fn short_verdict(f: Field, k: usize, images: &[u16; CELLS], read: [u16; 64]) -> Verdict
     requires { ⌜ InSpace f k (now images) × (k ≤ 6) × (length read ≡ 64) ⌝ }
-    ensures { λ v. ⌜ ((b w : List ℕ) → Basis (symbols (f .modulus)) k b → Images (symbols (f .modulus)) b (now (images .entry)) → length w ≡ 2 ^ k → Transposed 8 (2 ^ (k - 3)) w noSymbols read → By (symbols (f .modulus)) w (2 ^ k) (Codeword (symbols (f .modulus)) k b w) v) ⌝ }
+    ensures { λ v. ⌜ ((b w : List ℕ) → Basis (symbols (f .modulus)) k b → Images (symbols (f .modulus)) b (now (images .entry)) → length w ≡ 2 ^ k → Transposed 8 (2 ^ (k - 3)) w noSymbols read → By (symbols (f .modulus)) (Codeword (symbols (f .modulus)) k b w) (2 ^ k) k b w v) ⌝ }
 {
     if modulus::all_symbols(f, &read) {
-        if transform::blocks::short_codeword(f, k, images, read) {
-            return Verdict::Accept(1usize << k);
-        }
-        return Verdict::Reject(1usize << k);
+        let reads = 1usize << k;
+        return match least_degree(f, k, images, read) {
+            DegreeTest::Within => Verdict::Accept(reads),
+            DegreeTest::Above(degree) => {
+                let r = Rejection {
+                    reads,
+                    degree,
+                    dimension: k,
+                };
+                Verdict::Reject(r)
+            }
+        };
     }
     Verdict::Refused(9)
 }

@@ -14,14 +14,26 @@ enum-known-v-2 c = search needs
 add-result : tie.Need-add-result
 add-result c = search needs
 
+mul-result : tie.Need-mul-result
+mul-result c = search needs
+
+add-result-2 : tie.Need-add-result-2
+add-result-2 c = search needs
+
+mul-result-2 : tie.Need-mul-result-2
+mul-result-2 c = search needs
+
+add-result-3 : tie.Need-add-result-3
+add-result-3 c = search needs
+
 enum-known-v-3 : tie.Need-enum-known-v-3
 enum-known-v-3 c = search needs
 
 cast-result : tie.Need-cast-result
 cast-result c = search needs
 
-add-result-2 : tie.Need-add-result-2
-add-result-2 c = search needs
+add-result-4 : tie.Need-add-result-4
+add-result-4 c = search needs
 
 returns : tie.Need-returns
 returns c = sym (ap verdictCode (c .before .v .given .1))
@@ -39,9 +51,13 @@ verdict-code-spec =
     enum-known-v
     enum-known-v-2
     add-result
+    mul-result
+    add-result-2
+    mul-result-2
+    add-result-3
     enum-known-v-3
     cast-result
-    add-result-2
+    add-result-4
     returns
     returns-2
     returns-3)

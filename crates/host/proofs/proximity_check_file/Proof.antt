@@ -30,16 +30,17 @@ cast-reads c =
     let t = c .before .before .before in
     record { fits = omega (arith, few-accepted (bytes t) (coin t) (t .check-file .result) (t .check-file .ensures) (c .before .n .given .0 .0) (c .before .n .given .1)) }
 
-enum-known-n-2 : tie.Need-enum-known-n-2
-enum-known-n-2 c = search needs
+enum-known-r : tie.Need-enum-known-r
+enum-known-r c = search needs
 
 cast-reads-2 : tie.Need-cast-reads-2
 cast-reads-2 c =
-    let t = c .before .before .before in
-    record { fits = omega (arith, few-rejected (bytes t) (coin t) (t .check-file .result) (t .check-file .ensures) (c .before .n2 .given .0 .0) (c .before .n2 .given .1)) }
+    let r = c .before .before in
+    let t = r .before .before in
+    record { fits = omega (arith, few-rejected (bytes t) (coin t) (t .check-file .result) (t .check-file .ensures) (r .r .given .0 .0) (r .r .given .1) .0) }
 
-enum-known-n-3 : tie.Need-enum-known-n-3
-enum-known-n-3 c = search needs
+enum-known-n-2 : tie.Need-enum-known-n-2
+enum-known-n-2 c = search needs
 
 cast-result : tie.Need-cast-result
 cast-result c = search needs
@@ -51,13 +52,14 @@ returns c =
 
 returns-2 : tie.Need-returns-2
 returns-2 c =
-    let t = c .before .before .before in
-    host-answer (bytes t) (coin t) (t .check-file .result) (t .check-file .ensures) (Reject (c .before .n2 .given .0 .0)) (c .before .n2 .given .1) (before t)
+    let r = c .before .before in
+    let t = r .before .before in
+    host-answer (bytes t) (coin t) (t .check-file .result) (t .check-file .ensures) (Reject (r .r .given .0 .0)) (r .r .given .1) (before t)
 
 returns-3 : tie.Need-returns-3
 returns-3 c =
     let t = c .before .before .before in
-    host-answer (bytes t) (coin t) (t .check-file .result) (t .check-file .ensures) (Refused (c .before .n3 .given .0 .0)) (c .before .n3 .given .1) (before t)
+    host-answer (bytes t) (coin t) (t .check-file .result) (t .check-file .ensures) (Refused (c .before .n2 .given .0 .0)) (c .before .n2 .given .1) (before t)
 
 pub proximity-check-file-spec : {M : Type 1} → statement M
 proximity-check-file-spec =
@@ -66,9 +68,9 @@ proximity-check-file-spec =
     check-file-requires
     enum-known-n
     cast-reads
-    enum-known-n-2
+    enum-known-r
     cast-reads-2
-    enum-known-n-3
+    enum-known-n-2
     cast-result
     returns
     returns-2

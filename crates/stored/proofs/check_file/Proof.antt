@@ -9,7 +9,7 @@ use Rattle.field.specs.Checks.{not-less}
 use Rattle.field.specs.Ranges.{high-bits-test}
 use Rattle.proximity.specs.Dim.{R}
 use Rattle.proximity.specs.LineLaws.{R-small}
-use Rattle.stored.specs.CheckLaws.{refused-file, refused-coin, read-passes, read-dimension, read-basis, read-images, read-space, read-laid, read-below, read-answer}
+use Rattle.stored.specs.CheckLaws.{refused-file, refused-coin, read-passes, read-dimension, read-basis, read-images, read-space, read-laid, read-answer}
 use Rattle.stored.specs.File.{dimIn, basisIn}
 use Rattle.stored.specs.declared.Reading.{Reading}
 use borrow.Author.Needs.{needs}
@@ -84,7 +84,7 @@ verdict-requires c κs =
     let f = bytes h in
     let e = got h .read .ensures in
     let z = h .if1 .left in
-    ((read-space f (found h) e z, read-laid f (found h) e z), read-below f (found h) e z)
+    (read-space f (found h) e z, read-laid f (found h) e z)
 
 returns-3 : tie.Need-returns-3
 returns-3 c =

@@ -15,13 +15,13 @@ use Rattle.verifier.proofs.Laws.{one-shifted}
 use Rattle.verifier.specs.Checker.{readsOf, OnCoin}
 use Rattle.stored.specs.Bytes.{numbersAt}
 use Rattle.stored.specs.Check.{AnsweredFile}
-use Rattle.stored.specs.CheckLaws.{read-passes, read-dimension, read-basis, read-images, read-space, read-laid, read-below, read-answer}
+use Rattle.stored.specs.CheckLaws.{read-passes, read-dimension, read-basis, read-images, read-space, read-laid, read-answer}
 use Rattle.stored.specs.File.{dimIn, basisIn}
 use Rattle.stored.specs.Packed.{length-numbers}
 use Rattle.stored.specs.Reader.{fileChecks, Told}
 use Rattle.stored.specs.declared.Reading.{Reading}
 use Rattle.coins.specs.Counted.{Counted, counted-most}
-use Rattle.coins.specs.Tally.{judged, count-verdict, most-verdict}
+use Rattle.coins.specs.Tally.{count-verdict, most-verdict}
 use Rattle.coins.specs.Totals.{Rejects, mostOf}
 use Rattle.coins.proofs.FileSymbols.{symbolCount, few-symbols, word-front, short}
 use Rattle.coins.proofs.tally.all_coins.Statement.{statement}
@@ -161,10 +161,8 @@ module _ (c : tie.After-check-word Inv-loop μ-loop) where
       let b = basisIn file in
       let m = r .setting .field .modulus in
       let v = c .check-word .result in
-      let below = read-below file r (told s) (none s) in
       read-answer file r (told s) (none s) (head .loop .coin) inside v
-      (judged m (k at) b (numbersAt (r .narrow) file (r .word) (2 ^ k at)) (numbersAt (r .narrow) file (r .proof) (S (k at))) (head .loop .coin) (below .0) (below .1) v
-      (transport (λ i. OnCoin (symbols m) (k at) b (word-is at i) (proof-is at i) (head .loop .coin) v) (c .check-word .ensures b (read-basis file r (told s) (none s)) (read-images file r (told s) (none s)))))
+      (transport (λ i. OnCoin (symbols m) (k at) b (word-is at i) (proof-is at i) (head .loop .coin) v) (c .check-word .ensures b (read-basis file r (told s) (none s)) (read-images file r (told s) (none s))))
 
   passed : Passes (fileChecks file)
   passed = read-passes file (found (start at)) (told (start at)) (none (start at))

@@ -15,8 +15,8 @@ row-images-requires c κs = search needs
 enum-told : tie.Need-enum-told
 enum-told c = search needs
 
-column-images-requires : tie.Need-column-images-requires
-column-images-requires c κs = search needs
+upper-images-requires : tie.Need-upper-images-requires
+upper-images-requires c κs = search needs
 
 returns : tie.Need-returns
 returns c =
@@ -28,7 +28,7 @@ returns-2 : tie.Need-returns-2
 returns-2 c =
     let s = c .before .before .before in
     line-table (s .args .k) (s .pre .0) (s .pre .1) (s .args .images .now) (s .args .line)
-    (c .column-images .ensures ∙ sym (ap (lineImages (s .args .k) (s .args .images .now)) (c .before .enum-told .given .1)))
+    (c .upper-images .ensures ∙ sym (ap (lineImages (s .args .k) (s .args .images .now)) (c .before .enum-told .given .1)))
 
 pub line-images-spec : {M : Type 1} → statement M
 line-images-spec =
@@ -37,6 +37,6 @@ line-images-spec =
     enum-known-line
     row-images-requires
     enum-told
-    column-images-requires
+    upper-images-requires
     returns
     returns-2)

@@ -1,47 +1,42 @@
 -- `stored::check::verdict` meets its contract. Assumes nothing.
-use mathlib.Core.Path.{_≡_, sym, ap, _∙_, subst}
+use mathlib.Core.Path.{_≡_, sym, _∙_}
 use mathlib.Core.List.{List}
 use Prim.Native.Nat.{ℕ, _*_, _%_, _^_, _≤_}
 use native.Mathlib.Omega.{arith}
-use lib.ListN.{length, take, length-map}
-use lib.Pow.{pow-pos}
-use Rattle.lists.specs.All.{Below}
-use Rattle.lists.specs.Decides.{Decides, decides-true, decides-false}
-use Rattle.field.specs.Binary.{degree}
-use Rattle.field.specs.Laws.{Ops}
-use Rattle.field.specs.Symbols.{symbols, symbols-field}
-use Rattle.poly.specs.Codeword.{Basis, Codeword}
-use Rattle.space.specs.Images.{Images}
-use Rattle.transform.specs.Blocks.{InBlocks}
-use Rattle.proximity.specs.Dim.{dim, S}
-use Rattle.proximity.specs.LeafTable.{leaf-low}
-use Rattle.proximity.specs.Reads.{leafBasis, leaf-small, length-positions}
-use Rattle.proximity.specs.Verdict.{leaf-basis}
-use Rattle.proximity.specs.Verifier.{Accepts, positions}
+use lib.ListN.{length, take}
+use lib.Pow.{pow-mono}
+use lib.Seq.{length-take-le}
+use Rattle.field.specs.declared.Field.{Field}
+use Rattle.proximity.specs.Dim.{S}
+use Rattle.proximity.specs.Tree.{S-leaf}
 use Rattle.verifier.specs.Checker.{symbolsAt, readsOf}
+use Rattle.verifier.specs.Parts.{InSpace}
+use Rattle.verifier.specs.declared.Verdict.{Verdict}
+use Rattle.verifier.proofs.Leaf.{leaf-facts}
+use Rattle.verifier.proofs.Lines.{Claim}
 use Rattle.stored.specs.Bytes.{numbersAt}
 use Rattle.stored.specs.Packed.{length-numbers}
-use Rattle.stored.specs.Leaf.{symbols-below, decides-accepts}
 use Rattle.stored.proofs.Laws.{word-count}
+use borrow.Author.Needs.{needs}
 use Rattle.stored.proofs.check.verdict.Statement.{statement}
 use Rattle.stored.proofs.check.verdict.Tie as tie
 
 leaf-space-requires : tie.Need-leaf-space-requires
-leaf-space-requires c κs = let s = c .before .before .before in (s .pre .0 .0 .high, s .pre .0 .0 .table .count)
+leaf-space-requires c κs = let s = c .before .before .before in (s .pre .0 .high, s .pre .0 .table .count)
 
 -- the space at which the coin ends
 module _ (c : tie.After-leaf-space) where
   abbrev start : tie.Start
   start = c .before .before .before .before
 
+  abbrev f : Field
+  f = start .args .f
+
   abbrev k : ℕ
   k = start .args .t2 .k
 
   abbrev coin : ℕ
   coin = start .args .coin
-
-  abbrev K : Ops
-  K = symbols (start .args .f .modulus)
 
   abbrev w : List ℕ
   w = numbersAt (start .args .narrow) (start .args .file .now) (start .args .word) (2 ^ k)
@@ -52,87 +47,67 @@ module _ (c : tie.After-leaf-space) where
   abbrev m : ℕ
   m = c .leaf-space .result .k
 
-  small : m ≤ 6
-  small = omega (arith, c .leaf-space .ensures .dimension, leaf-small (dim k) coin)
+  abbrev u : List ℕ
+  u = c .leaf-space .result .images
+
+  leaf : (m ≤ 6) × (2 ^ m ≡ readsOf k coin) × InSpace f m u
+      × ((v : Verdict) (short ρ : List ℕ) (i : ℕ) → short ≡ symbolsAt k w π coin → Claim f m u short ρ i v → Claim f k (start .args .t2 .images) w π coin v)
+  leaf =
+      leaf-facts f k (start .args .t2 .images) (start .pre .0) w π (length-numbers (start .args .narrow) (start .args .file .now) (start .args .word) (2 ^ k))
+      (length-numbers (start .args .narrow) (start .args .file .now) (start .args .proof) (S k)) coin m u (c .leaf-space .ensures)
 
   abbrev n : ℕ
   n = 1 * 2 ^ m % 18446744073709551616
 
   size : n ≡ 2 ^ m
-  size = word-count m (omega (arith, small)) .0
+  size = word-count m (omega (arith, leaf .0)) .0
 
-  reads : n ≡ readsOf k coin
-  reads = size ∙ ap (λ (j : ℕ). 2 ^ j) (c .leaf-space .ensures .dimension) ∙ sym (length-positions (dim k) coin)
+  few : n ≤ 64
+  few = omega (arith, size, pow-mono {i = m} {j = 6} (leaf .0))
 
 shl-n : tie.Need-shl-n
-shl-n c = omega (arith, small c)
+shl-n c = omega (arith, leaf c .0)
 
 symbols-requires : tie.Need-symbols-requires
-symbols-requires c κs = (start c .pre .0 .1, reads c)
+symbols-requires c κs = (start c .pre .1, size c ∙ leaf c .1)
 
 -- the symbols read
 module _ (c : tie.After-symbols) where
   abbrev found : tie.After-leaf-space
   found = c .before
 
-  read : take (2 ^ m found) (c .symbols .result) ≡ symbolsAt (k found) (w found) (π found) (coin found)
-  read = ap (λ (j : ℕ). take j (c .symbols .result)) (sym (size found)) ∙ c .symbols .ensures .1
+  short : length (take (n found) (c .symbols .result)) ≡ n found
+  short = length-take-le (n found) (c .symbols .result) (omega (arith, few found, c .symbols .ensures .0))
 
-  table : (b : List ℕ) → Basis (K found) (k found) b → Images (K found) b (start found .args .t2 .images) → Images (K found) (leafBasis (K found) (dim (k found)) b (coin found)) (found .leaf-space .result .images)
-  table b B I = found .leaf-space .ensures .right (start found .args .f .modulus) (start found .pre .0 .0 .irreducible) b B I
+array-share-prefix-read : tie.Need-array-share-prefix-read
+array-share-prefix-read c = omega (arith, few (found c), c .symbols .ensures .0)
 
-  in-blocks : InBlocks (start found .args .f) (found .leaf-space .result .images) (m found) (take (2 ^ m found) (c .symbols .result))
-  in-blocks =
-      let s = start found .pre .0 .0 in
-      let l = 2 ^ degree (start found .args .f .modulus) in
-      record {
-        sized = s .sized;
-        irreducible = s .irreducible;
-        low = omega (arith, found .leaf-space .ensures .dimension, leaf-low (dim (k found)) (coin found) (s .low));
-        high = omega (arith, small found);
-        long = ap length read ∙ length-symbols;
-        image-symbols = table (s .basis) (s .right) (s .table) .elements;
-        symbols = subst (Below l) (sym read)
-            (symbols-below l (w found) (π found) (pow-pos (degree (start found .args .f .modulus))) (start found .pre .1 .0) (start found .pre .1 .1) (positions (dim (k found)) (coin found)));
-      }
-    where
-      length-symbols : length (symbolsAt (k found) (w found) (π found) (coin found)) ≡ 2 ^ m found
-      length-symbols = rw length-map (sym (reads found) ∙ size found)
+slice-aggregate-short : tie.Need-slice-aggregate-short
+slice-aggregate-short c = sym (short (c .before))
 
-accepts-requires : tie.Need-accepts-requires
-accepts-requires c κs = let s = c .before .before in (in-blocks s, small (found s), s .symbols .ensures .0)
+slice-aggregate-none : tie.Need-slice-aggregate-none
+slice-aggregate-none c = search needs
 
--- the test decides acceptance
-module _ (c : tie.After-accepts) where
-  abbrev got : tie.After-symbols
-  got = c .before .before .before
-
-  abbrev at : tie.After-leaf-space
-  at = found got
-
-  decides : (b : List ℕ) → Basis (K at) (k at) b → Images (K at) b (start at .args .t2 .images) → Decides (c .accepts .result) (Accepts (K at) (dim (k at)) b (w at) (π at) (coin at))
-  decides b B I =
-      decides-accepts (K at) (k at) b (w at) (π at) (length-numbers (start at .args .narrow) (start at .args .file .now) (start at .args .word) (2 ^ k at))
-      (length-numbers (start at .args .narrow) (start at .args .file .now) (start at .args .proof) (S (k at))) (coin at) (c .accepts .result)
-      (subst (λ (j : ℕ). Decides (c .accepts .result) (Codeword (K at) j (leafBasis (K at) (dim (k at)) b (coin at)) (symbolsAt (k at) (w at) (π at) (coin at)))) (at .leaf-space .ensures .dimension)
-      (subst (λ (xs : List ℕ). Decides (c .accepts .result) (Codeword (K at) (m at) (leafBasis (K at) (dim (k at)) b (coin at)) xs)) (read got)
-      (c .accepts .ensures (leafBasis (K at) (dim (k at)) b (coin at))
-      (subst (λ (j : ℕ). Basis (K at) j (leafBasis (K at) (dim (k at)) b (coin at))) (sym (at .leaf-space .ensures .dimension)) (leaf-basis (symbols-field (start at .args .f .modulus) (start at .pre .0 .0 .irreducible)) (dim (k at)) b (coin at) B))
-      (table got b B I))))
+check-word-requires : tie.Need-check-word-requires
+check-word-requires c κs =
+    let s = c .before .before .before .before in
+    let l = leaf (found s) in
+    (l .2, short s ∙ size (found s), sym (S-leaf (m (found s)) (l .0)))
 
 returns : tie.Need-returns
 returns c =
-    let t = c .before in
-    let s = at t in
-    λ b B I. (reads s, decides-true (Accepts (K s) (dim (k s)) b (w s) (π s) (coin s)) (decides t b B I) (c .if1 .taken))
-
-returns-2 : tie.Need-returns-2
-returns-2 c =
-    let t = c .before in
-    let s = at t in
-    λ b B I. (reads s, decides-false (Accepts (K s) (dim (k s)) b (w s) (π s) (coin s)) (decides t b B I) (c .if1 .left))
+    let s = c .before .before .before .before .before in
+    leaf (found s) .3 (c .check-word .result) _ _ _ (s .symbols .ensures .1) (c .check-word .ensures)
 
 pub verdict-spec : {M : Type 1} → statement M
 verdict-spec =
     tie.close
-    (tie.spec leaf-space-requires shl-n symbols-requires accepts-requires returns returns-2)
+    (tie.spec
+    leaf-space-requires
+    shl-n
+    symbols-requires
+    array-share-prefix-read
+    slice-aggregate-short
+    slice-aggregate-none
+    check-word-requires
+    returns)

@@ -1,5 +1,5 @@
 -- `verifier::parts::short_verdict` meets its contract. Assumes nothing.
-use mathlib.Core.Path.{_≡_, refl, _∙_}
+use mathlib.Core.Path.{_≡_, refl, _∙_, subst}
 use mathlib.Core.Logic.{inl, inr}
 use mathlib.Core.List.{List, [], _∷_}
 use Prim.Native.Nat.{ℕ, _-_, _*_, _%_, _^_, _≤_, _<_}
@@ -9,11 +9,14 @@ use lib.Pow.{pow-pos, pow-mono}
 use lib.Seq.{length-take-le}
 use Rattle.lists.specs.All.{All, Below, All-take}
 use Rattle.lists.specs.Answers.{Passes}
-use Rattle.lists.specs.Decides.{Decides, decides-true, decides-false}
+use Rattle.lists.specs.Decides.{decides-true, decides-false}
 use Rattle.field.specs.Symbols.{symbols}
-use Rattle.poly.specs.Codeword.{Basis, Codeword}
+use Rattle.poly.specs.Codeword.{Basis}
 use Rattle.space.specs.Images.{Images}
+use Rattle.transform.specs.Degree.{DegreeTold}
 use Rattle.transform.specs.Slices.{Transposed}
+use Rattle.transform.specs.declared.degree.DegreeTest.{DegreeTest}
+use Rattle.transform.specs.declared.degree.DegreeTest.the-variants.{Within, Above}
 use Rattle.verifier.specs.Parts.{noSymbols}
 use Rattle.field.specs.Binary.{degree}
 use Rattle.poly.specs.Blocks.{eighths}
@@ -49,8 +52,11 @@ module _ (c : tie.Then1) where
   low : 3 ≤ k
   low = start .pre .0 .low
 
-short-codeword-requires : tie.Need-short-codeword-requires
-short-codeword-requires c κs =
+shl-reads : tie.Need-shl-reads
+shl-reads c = search needs
+
+least-degree-requires : tie.Need-least-degree-requires
+least-degree-requires c κs =
     let s = start c .pre .0 in
     let r = start c .args .t4 in (
       record {
@@ -63,13 +69,18 @@ short-codeword-requires c κs =
         symbols = All-take (λ (x : ℕ). x < 2 ^ degree (q c)) (2 ^ k c) r (small c);
       },
       start c .pre .1,
+      start c .pre .2,
+      s .table .count,
     )
 
-shl-t11 : tie.Need-shl-t11
-shl-t11 c = search needs
+enum-told : tie.Need-enum-told
+enum-told c = search needs
 
--- what the codeword test tells of a word whose blocks are the lanes
-module _ (c : tie.After-short-codeword) (b w : List ℕ) (B : Basis (symbols (q (c .before))) (k (c .before)) b) (I : Images (symbols (q (c .before))) b (start (c .before) .args .images .now))
+enum-known-degree : tie.Need-enum-known-degree
+enum-known-degree c = search needs
+
+-- what the test tells of a word whose blocks are the lanes
+module _ (c : tie.After-least-degree) (b w : List ℕ) (B : Basis (symbols (q (c .before))) (k (c .before)) b) (I : Images (symbols (q (c .before))) b (start (c .before) .args .images .now))
     (lw : length w ≡ 2 ^ k (c .before)) (t : Transposed 8 (2 ^ (k (c .before) - 3)) w noSymbols (start (c .before) .args .t4)) where
   abbrev here : tie.Then1
   here = c .before
@@ -84,19 +95,19 @@ module _ (c : tie.After-short-codeword) (b w : List ℕ) (B : Basis (symbols (q 
   count : 1 * 2 ^ k here % 18446744073709551616 ≡ 2 ^ k here
   count = one-shifted (k here) (omega (arith, start here .pre .1))
 
-  test : Decides (c .short-codeword .result) (Codeword (symbols (q here)) (k here) b w)
-  test = c .short-codeword .ensures b B I w lw (t .lanes)
+  told : (r : DegreeTest) → c .least-degree .result ≡ r → DegreeTold (symbols (q here)) (k here) b w r
+  told r e = subst (DegreeTold (symbols (q here)) (k here) b w) e (c .least-degree .ensures b B I w lw (t .lanes))
 
 returns : tie.Need-returns
 returns c = λ b w B I lw t.
-    (passes (c .before) b w B I lw t, count (c .before) b w B I lw t, decides-true _ (test (c .before) b w B I lw t) (c .if2 .taken))
-
-shl-t12 : tie.Need-shl-t12
-shl-t12 c = search needs
+    let h = c .before .before in
+    (passes h b w B I lw t, count h b w B I lw t, told h b w B I lw t Within (c .enum-told .given .1))
 
 returns-2 : tie.Need-returns-2
 returns-2 c = λ b w B I lw t.
-    (passes (c .before) b w B I lw t, count (c .before) b w B I lw t, decides-false _ (test (c .before) b w B I lw t) (c .if2 .left))
+    let h = c .before .before .before in
+    let d = told h b w B I lw t (Above (c .before .degree .given .0 .0)) (c .before .degree .given .1) in
+    (passes h b w B I lw t, count h b w B I lw t, d .0, d .1, refl)
 
 returns-3 : tie.Need-returns-3
 returns-3 c = λ b w B I lw t.
@@ -117,9 +128,10 @@ short-verdict-spec =
     (tie.spec
     slice-aggregate-all-symbols
     all-symbols-requires
-    short-codeword-requires
-    shl-t11
+    shl-reads
+    least-degree-requires
+    enum-told
+    enum-known-degree
     returns
-    shl-t12
     returns-2
     returns-3)

@@ -1,26 +1,25 @@
--- `proximity::spaces::column_images` meets its contract. The loop's invariant: the first p entries are written, and the rest are 0. Assumes nothing.
+-- `space::upper::upper_images` meets its contract. The loop's invariant: the first p entries are written, and the rest are 0. Assumes nothing.
 use mathlib.Core.Path.{_≡_, refl}
 use Prim.Native.Nat.{_+_, _*_, _-_, _≤_}
 use native.Mathlib.Omega.{arith}
 use lib.ListN.{getD}
 use Rattle.lists.specs.Upto.{Upto, upto-none, upto-next}
-use Rattle.proximity.specs.Dim.{half}
-use Rattle.proximity.proofs.Rows.{column-filled}
-use Rattle.proximity.proofs.spaces.column_images.Statement.{statement}
-use Rattle.proximity.proofs.spaces.column_images.Tie as tie
+use Rattle.space.specs.Images.{upper-filled}
+use Rattle.space.proofs.upper.upper_images.Statement.{statement}
+use Rattle.space.proofs.upper.upper_images.Tie as tie
 use Rattle.space.specs.Sizes.{cells}
 
 abbrev Inv-loop : tie.InvT-loop
-Inv-loop images k shift t₀ p₀ t p = (shift ≡ 17 * half k) × (p ≤ cells) × Upto cells p (λ p. getD images (p + 17 * half k) 0) t
+Inv-loop images h shift t₀ p₀ t p = (shift ≡ 17 * h) × (p ≤ cells) × Upto cells p (λ p. getD images (p + 17 * h) 0) t
 
 abbrev μ-loop : tie.MeasureT-loop
-μ-loop images k shift t₀ p₀ t p = cells - p
+μ-loop images h shift t₀ p₀ t p = cells - p
 
 mul-shift : tie.Need-mul-shift Inv-loop μ-loop
 mul-shift c = omega arith
 
 loop-holds : tie.Need-loop-holds Inv-loop μ-loop
-loop-holds c = (refl, omega arith, upto-none cells (λ p. getD (c .args .images .now) (p + 17 * half (c .args .k)) 0))
+loop-holds c = (refl, omega arith, upto-none cells (λ p. getD (c .args .images .now) (p + 17 * c .args .h) 0))
 
 add-loop : tie.Need-add-loop Inv-loop μ-loop
 add-loop c = omega arith
@@ -50,10 +49,10 @@ loop-again : tie.Need-loop-again Inv-loop μ-loop
 loop-again c = let l = c .before .before .loop in (refl, omega arith, upto-next _ (omega arith) refl (l .inv .2))
 
 returns : tie.Need-returns Inv-loop μ-loop
-returns c = let s = c .before .before in column-filled (s .args .images .now) (s .args .k) (s .pre .0) (s .pre .1) (s .pre .2) (omega arith) (c .before .loop .inv .2)
+returns c = let s = c .before .before in upper-filled (s .args .h) (s .args .images .now) (s .pre .1) (omega arith) (c .before .loop .inv .2)
 
-pub column-images-spec : {M : Type 1} → statement M
-column-images-spec =
+pub upper-images-spec : {M : Type 1} → statement M
+upper-images-spec =
     tie.close
     (tie.spec
     Inv-loop
