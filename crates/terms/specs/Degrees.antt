@@ -36,7 +36,7 @@ use Rattle.terms.specs.Refusals.{refused-file-check}
 -- ---- the degree
 
 module _ (m : ℕ) (bs : List ℕ) (σ : ℕ) (w π : List ℕ) (coin : ℕ) where
-  -- the polynomials over the space at which the coin ends, at the shift τ of it
+  -- the word of a polynomial over the space at which the coin ends, at the shift τ
   abbrev pub wordThere : ℕ → List ℕ → List ℕ
   wordThere τ = wordAt (symbols m) τ (leafDim (dim (length bs)) coin) (leafBasis (symbols m) (dim (length bs)) bs coin)
 
