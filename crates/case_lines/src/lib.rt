@@ -1,5 +1,6 @@
 // Parts of the lines that programs with cases print: a text with its number, a list of symbols, and
 // the number of zeros in a scratch.
+#![tactic(auto)]
 ghost use Rattle.std.specs.Prelude.{◌≤◌};
 
 use libc::STDOUT_FILENO;

@@ -1,5 +1,6 @@
 // Encoder and decoder. A call makes its checks in order; a refusal leaves its output as it came, and
 // past check 7 the scratch is zero.
+#![tactic(auto)]
 mod decoder;
 mod encoder;
 
@@ -18,7 +19,7 @@ use transform::slices::clear;
 pub const SCRATCH: usize = 4;
 
 // A call is done, or refused with a number.
-#[derive(Drop)]
+#[derive(Clone, Copy)]
 pub enum Outcome {
     Done,
     Refused(u8),

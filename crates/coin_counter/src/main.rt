@@ -1,5 +1,6 @@
 // Tries all coins of the stored file on standard input, and prints the totals, or the number of the
 // refusal. A write that failed is told on standard error.
+#![tactic(auto)]
 ghost use Rattle.std.specs.Prelude.{◌≡◌, length, ◌+◌};
 ghost use Rattle.stored.specs.File.{file_limit};
 

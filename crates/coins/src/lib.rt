@@ -1,4 +1,5 @@
 // The totals over all coins of a stored file.
+#![tactic(auto)]
 mod off;
 mod symbols;
 pub mod tally;
@@ -8,7 +9,7 @@ ghost use Rattle.coins.specs.Totals.{no_counts, Told};
 
 // How far a word is from the codewords, by its correction: the number of differences that it finds,
 // or far where it refuses with 13.
-#[derive(Drop)]
+#[derive(Clone, Copy)]
 pub enum Distance {
     Near(usize),
     Far,
@@ -16,7 +17,7 @@ pub enum Distance {
 
 // What all coins of a file tell: the dimension, the number of coins, how many of them reject, and
 // the most symbols that one of them reads.
-#[derive(Drop)]
+#[derive(Clone, Copy)]
 pub struct Sweep {
     pub k: usize,
     pub coins: u64,
@@ -26,7 +27,7 @@ pub struct Sweep {
 
 // A refusal's number and zeros; or 0, the dimension, the number of coins, how many of them reject,
 // the most symbols that one of them reads, and how far the word is off the codewords.
-#[derive(Drop)]
+#[derive(Clone, Copy)]
 pub struct Counts {
     pub refusal: u8,
     pub k: usize,

@@ -198,4 +198,4 @@ pub cancel_zero : {K : Ops} (F : IsField K) (x y z c : ℕ) → K.Sym x → K.Sy
 cancel_zero {K} F x y z c sx sy n ez ec =
     ap (λ (t : ℕ). K.◌⊕◌ x t)
     (ap (λ (t : ℕ). K.◌⊗◌ t y) (ec ∙ ap (K.◌⊗◌ x) ez) ∙ F.prod_assoc x (K.inv y) y ∙ ap (K.◌⊗◌ x) (F.prod_comm (K.inv y) y ∙ F.prod_inv y sy n) ∙ ⊗_1 F x sx)
-    ∙ F.Sum-self x
+    ∙ F.sum_self x

@@ -1,5 +1,6 @@
 // The codeword that is near a word, within half the distance of the code (mending, in the papers): Gao's
 // decoder, whose cost grows with the number of differences.
+#![tactic(auto)]
 mod candidate;
 mod division;
 pub mod nearest;
@@ -21,7 +22,7 @@ use transform::slices::clear;
 pub const SCRATCH: usize = 16;
 
 // The number of differences, or the number of a refusal.
-#[derive(Drop)]
+#[derive(Clone, Copy)]
 pub enum Correction {
     Corrected(usize),
     Refused(u8),

@@ -14,7 +14,7 @@ use transform::blocks::is_codeword;
 use transform::slices::{copy, transpose};
 
 // 0 and the number of differences, or the number of a refusal.
-#[derive(Drop)]
+#[derive(Clone, Copy)]
 pub struct NearestAnswer {
     pub refusal: u8,
     pub count: usize,

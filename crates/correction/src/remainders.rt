@@ -14,7 +14,7 @@ use field::inverse::inverse;
 use field::products::mul;
 
 // The polynomial at `at` has the degree b, and the other one a degree below a.
-#[derive(Drop)]
+#[derive(Clone, Copy)]
 pub struct State {
     pub a: usize,
     pub b: usize,

@@ -2,6 +2,7 @@
 // that near; each refusal, and where two checks would refuse; then words of 256 symbols. A line for
 // each call, with its output and the number of zeros in the scratch, held to the file stdout. Outputs
 // come in as nines, the scratch as sevens.
+#![tactic(auto)]
 mod large;
 
 use case_lines::{cleared, figure, numbers};

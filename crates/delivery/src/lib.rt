@@ -1,5 +1,6 @@
 // A delivery from end to end: a message file of a setting and coefficients becomes the stored file of
 // their word and its proof, in the form of the message.
+#![tactic(auto)]
 mod checks;
 mod parts;
 
@@ -8,7 +9,7 @@ ghost use Rattle.delivery.specs.Message.{Told};
 use stored::forms;
 
 // How many bytes are written, or the number of a refusal.
-#[derive(Drop)]
+#[derive(Clone, Copy)]
 pub enum Made {
     Written(usize),
     Refused(u8),

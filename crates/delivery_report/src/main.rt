@@ -1,6 +1,7 @@
 // Reads up to 200 stored files, one after the other, on standard input, and prints a line for each
 // and the total. It holds a window on the input: no file that is accepted has more bytes. A write
 // that failed is told on standard error.
+#![tactic(auto)]
 ghost use Rattle.std.specs.Prelude.{◌≡◌, length};
 ghost use Rattle.stored.specs.File.{file_limit};
 

@@ -1,5 +1,7 @@
 // Arithmetic in GF(2^l). A polynomial over GF(2) is the number whose binary digits are its
 // coefficients; a symbol is a number below 2^l.
+#![tactic(auto)]
+
 pub mod division;
 pub mod inverse;
 pub mod modulus;
@@ -13,14 +15,14 @@ use modulus::{field_of, is_symbol, modulus_refusal};
 use products::mul;
 
 // A field by its modulus, and the modulus's degree.
-#[derive(Drop)]
+#[derive(Clone, Copy)]
 pub struct Field {
     pub modulus: u32,
     pub degree: u32,
 }
 
 // A symbol, or the number of a refusal.
-#[derive(Drop)]
+#[derive(Clone, Copy)]
 pub enum Value {
     Symbol(u16),
     Refused(u8),

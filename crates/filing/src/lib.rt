@@ -1,4 +1,5 @@
 // Stored files written: from a setting, a word and a proof, and from a file of the other form.
+#![tactic(auto)]
 mod conversion;
 mod put;
 pub mod writer;
@@ -12,7 +13,7 @@ ghost use Rattle.filing.specs.Writer.{Wrote};
 use stored::{Form, forms};
 
 // The file is written, or the number of a refusal.
-#[derive(Drop)]
+#[derive(Clone, Copy)]
 pub enum Outcome {
     Written,
     Refused(u8),
@@ -29,7 +30,7 @@ pub fn number_of(o: Outcome) -> u8
 }
 
 // A refusal's number and 0; or 0 and how many bytes the file of the other form has.
-#[derive(Drop)]
+#[derive(Clone, Copy)]
 pub struct ConvertedLength {
     pub refusal: u8,
     pub length: usize,

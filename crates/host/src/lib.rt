@@ -1,6 +1,7 @@
 // The host kit: the checker over stored files and their converter, for programs in C. A file is lent as its bytes; an
 // answer is a number: definitions in specs/Answer.antt say which. include/proximity.h declares the
 // calls.
+#![tactic(auto)]
 mod degree;
 
 ghost use Rattle.lists.specs.Answers.{Answers};

@@ -2,6 +2,7 @@
 // on standard output. The number that refuses it, and a write that failed, go to standard error. No
 // message has 4096 bytes, so an input that goes past the buffer gets the number that all of it would
 // get.
+#![tactic(auto)]
 ghost use Rattle.std.specs.Prelude.{◌≡◌, length};
 ghost use Rattle.stored.specs.File.{file_limit};
 

@@ -179,7 +179,7 @@ module _ {K : Ops} (F : IsField K) where
   pub quot-root : (c : ℕ) (p : List ℕ) (x a : ℕ) → All Sym p → Sym x → Sym a → x ≢ a → eval K (c ∷ p) x ≡ 0 → eval K (c ∷ p) a ≡ 0 → eval K (quot K p a) x ≡ 0
   quot-root c p x a sp sx sa n ex ea =
       ⊗-zero F (x ⊕ a) (eval K (quot K p a) x) (F.sym_sum sx sa) (eval_sym (quot K p a) x (quot_sym p a sp sa) sx) (λ z. n (⊕-zero F x a z))
-      (sym (factor c p x a) ∙ ap₂ ◌⊕◌ ex ea ∙ F.Sum-self 0)
+      (sym (factor c p x a) ∙ ap₂ ◌⊕◌ ex ea ∙ F.sum_self 0)
 
   -- A polynomial with n coefficients that is 0 at n distinct elements is 0
   pub root-bound : (n : ℕ) (p : List ℕ) (f : ℕ → ℕ) → length p ≡ n → All Sym p → ((i : ℕ) → i < n → Sym (f i)) → Distinct n f

@@ -109,7 +109,7 @@ module _ {K : Ops} (F : IsField K) where
   bit_of_differ : (u v b : ℕ) → u < 2 → v < 2 → bit_of (differ u v) b ≡ bit_of u b ⊕ bit_of v b
   bit_of_differ zero v b hu hv = sym (0_⊕ F (bit_of v b))
   bit_of_differ (suc u) zero b hu hv = sym (⊕_0 F b)
-  bit_of_differ (suc zero) (suc zero) b hu hv = sym (F.Sum-self b)
+  bit_of_differ (suc zero) (suc zero) b hu hv = sym (F.sum_self b)
   bit_of_differ (suc zero) (suc (suc v)) b hu hv = absurd (omega arith)
   bit_of_differ (suc (suc u)) (suc v) b hu hv = absurd (omega arith)
 
@@ -117,7 +117,7 @@ module _ {K : Ops} (F : IsField K) where
   xor_sums a b c d = simp (sums, F)
 
   pub elem_xor : (bs : List ℕ) (i j : ℕ) → elem K bs (bit_xor i j) ≡ elem K bs i ⊕ elem K bs j
-  elem_xor [] i j = sym (F.Sum-self 0)
+  elem_xor [] i j = sym (F.sum_self 0)
   elem_xor (b ∷ bs) i j =
       elem-cons b bs (bit_xor i j) (differ (i % 2) (j % 2)) (bit_xor (i / 2) (j / 2)) (xor_odd i j) (xor_half i j)
       ∙ ap₂ ◌⊕◌ (bit_of_differ (i % 2) (j % 2) b (omega arith) (omega arith)) (elem_xor bs (i / 2) (j / 2))
@@ -126,7 +126,7 @@ module _ {K : Ops} (F : IsField K) where
   -- Elements with different numbers differ
   pub elem_distinct : (bs : List ℕ) → Independent K bs → Distinct (2 ^ length bs) (elem K bs)
   elem_distinct bs ind i j hi hj e =
-      xor-zero i j (ind (bit_xor i j) (xor_lt (length bs) i j hi hj) (elem_xor bs i j ∙ ap (λ (t : ℕ). t ⊕ elem K bs j) e ∙ F.Sum-self (elem K bs j)))
+      xor-zero i j (ind (bit_xor i j) (xor_lt (length bs) i j hi hj) (elem_xor bs i j ∙ ap (λ (t : ℕ). t ⊕ elem K bs j) e ∙ F.sum_self (elem K bs j)))
 
   product_to_ext : (n : ℕ) (f g : ℕ → ℕ) → ((i : ℕ) → f i ≡ g i) → product_to K n f ≡ product_to K n g
   product_to_ext zero f g h = h 0
@@ -247,12 +247,12 @@ module _ {K : Ops} (F : IsField K) where
       let (r, hr, er) = vanish-root bs (elem K cs s) sb (elem_sym cs s sc) (sym (elem-vanish bs cs s) ∙ e) in
       block-zero (length bs) r s
       (ind (r + 2 ^ length bs * s) (rw (length-append bs cs) (block-lt (length bs) (length cs) r s hr (rw length-map at h)))
-      (elem_append bs cs r s hr ∙ ap (λ (t : ℕ). elem K bs r ⊕ t) er ∙ F.Sum-self (elem K bs r)))
+      (elem_append bs cs r s hr ∙ ap (λ (t : ℕ). elem K bs r ⊕ t) er ∙ F.sum_self (elem K bs r)))
 
   -- The next basis element is no root
   pub vanish-next : (bs : List ℕ) (b : ℕ) (cs : List ℕ) → All Sym bs → All Sym (b ∷ cs) → Independent K (bs ++ b ∷ cs) → vanish K bs b ≢ 0
   vanish-next bs b cs sb sc ind e =
       let z : ◌≡◌ {A = ℕ} 1 0 =
       vanish_independent bs (b ∷ cs) sb sc ind 1 (omega (arith, pow-succ' 2 (length (map (vanish K bs) cs)), pow_pos (length (map (vanish K bs) cs))))
-      (elem_odd (vanish K bs b) (map (vanish K bs) cs) 0 ∙ ap₂ ◌⊕◌ e (elem-zero (map (vanish K bs) cs)) ∙ F.Sum-self 0)
+      (elem_odd (vanish K bs b) (map (vanish K bs) cs) 0 ∙ ap₂ ◌⊕◌ e (elem-zero (map (vanish K bs) cs)) ∙ F.sum_self 0)
       in omega arith

@@ -1,5 +1,6 @@
 // The bench cases of the checker, and the prover's pairs at k = 7 to 9 counted over all coins: a
 // line for each, held to the file stdout. Lent outputs and scratch come in as sevens.
+#![tactic(auto)]
 mod lines;
 mod short;
 

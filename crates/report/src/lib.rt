@@ -1,4 +1,5 @@
 // The report over a stream of stored files, one after the other.
+#![tactic(auto)]
 pub mod window;
 
 ghost use Rattle.std.specs.Prelude.{◌≡◌};
@@ -16,7 +17,7 @@ pub const MOST_COINS: u64 = 1 << 25;
 
 // What the report says of a file: a refusal's number and zeros; or 0, the dimension, the number of
 // coins, how many of them reject, the most symbols that one of them reads, and where the file ends.
-#[derive(Drop)]
+#[derive(Clone, Copy)]
 pub struct Entry {
     pub refusal: u8,
     pub k: usize,
@@ -27,7 +28,7 @@ pub struct Entry {
 }
 
 // The accepted files, the sum of their coins and the sum of their rejects.
-#[derive(Drop)]
+#[derive(Clone, Copy)]
 pub struct Total {
     pub files: u64,
     pub coins: u64,
@@ -35,7 +36,7 @@ pub struct Total {
 }
 
 // The report so far: the number of files read, what it says of the latest, and the total.
-#[derive(Drop)]
+#[derive(Clone, Copy)]
 pub struct Report {
     pub read: u64,
     pub latest: Entry,

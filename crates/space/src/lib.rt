@@ -3,6 +3,7 @@
 //
 // W_j(x) is the product of x - a over a in the span of the first j basis elements. The normalised
 // image of number j of x is W_j(x) / W_j(b_(j+1)); it is additive in x.
+#![tactic(auto)]
 pub mod elements;
 pub mod upper;
 pub mod values;
@@ -36,7 +37,7 @@ pub const MAX_COEFFICIENTS: usize = 1 << (MAX - 3);
 pub const MAX_WORD: usize = 1 << MAX;
 
 // The dimension, and the normalised image of number j of b_(i+1) at 16 * i + j.
-#[derive(Drop)]
+#[derive(Clone, Copy)]
 pub struct Space {
     pub k: usize,
     pub images: [u16; CELLS],
@@ -44,7 +45,7 @@ pub struct Space {
 
 // The basis, the steps W_j(b_(j+1)) and their inverses, each with zeros past the dimension. Position
 // i of a word belongs to the shift plus element i.
-#[derive(Drop)]
+#[derive(Clone, Copy)]
 pub struct Setting {
     pub field: Field,
     pub space: Space,
@@ -55,14 +56,14 @@ pub struct Setting {
 }
 
 // A refusal's number and no setting, or 0 and the setting.
-#[derive(Drop)]
+#[derive(Clone, Copy)]
 pub struct Checked {
     pub refusal: u8,
     pub setting: Setting,
 }
 
 // The images, steps and inverses of a basis, or zeros where it is dependent.
-#[derive(Drop)]
+#[derive(Clone, Copy)]
 pub struct Tables {
     pub independent: bool,
     pub images: [u16; CELLS],

@@ -1,4 +1,5 @@
 // The stored file, in two forms: three records, numbers lowest byte first.
+#![tactic(auto)]
 pub mod bytes;
 mod check;
 pub mod forms;
@@ -26,7 +27,7 @@ pub const SMALL_PROOF: usize = 16128;
 
 // The two forms of a stored file: they differ in their marks, in the shift, which form 2 alone
 // has, and in the bytes of a symbol.
-#[derive(Drop)]
+#[derive(Clone, Copy)]
 pub enum Form {
     One,
     Two,
@@ -34,7 +35,7 @@ pub enum Form {
 
 // Whether symbols take one byte each, where those of the word and of the proof begin, and where the
 // last record ends.
-#[derive(Drop)]
+#[derive(Clone, Copy)]
 pub struct Layout {
     pub narrow: bool,
     pub word: usize,
@@ -44,7 +45,7 @@ pub struct Layout {
 
 // A refusal's number and no setting; or 0, the form, the setting, whether symbols take one byte
 // each, where those of the word and of the proof begin, and where the last record ends.
-#[derive(Drop)]
+#[derive(Clone, Copy)]
 pub struct Reading {
     pub refusal: u8,
     pub form: Form,

@@ -14,7 +14,7 @@ use field::Field;
 use space::CELLS;
 
 // Whether the degree of a word is within the limit of a codeword; if not, the least degree.
-#[derive(Drop)]
+#[derive(Clone, Copy)]
 pub enum DegreeTest {
     Within,
     Above(usize),

@@ -1,4 +1,5 @@
 // The checker for one coin.
+#![tactic(auto)]
 mod blocks;
 mod gather;
 pub mod parts;
@@ -12,7 +13,7 @@ use proximity::tables;
 
 // What a reject tells of the short word at which the coin ends: how many symbols were read, the least
 // degree of a polynomial through them, and the dimension of their space.
-#[derive(Drop)]
+#[derive(Clone, Copy)]
 pub struct Rejection {
     pub reads: usize,
     pub degree: usize,
@@ -21,7 +22,7 @@ pub struct Rejection {
 
 // The verdict with the number of symbols read, a reject with the degree behind it; or the number of
 // a refusal.
-#[derive(Drop)]
+#[derive(Clone, Copy)]
 pub enum Verdict {
     Accept(usize),
     Reject(Rejection),

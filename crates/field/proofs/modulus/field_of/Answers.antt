@@ -1,4 +1,3 @@
--- `field::modulus::field_of` meets its contract. Assumes nothing.
 use mathlib.Core.Path.{refl}
 use Prim.Native.Nat.{◌≤◌, ◌<◌}
 use native.Mathlib.Omega.{arith}
@@ -6,20 +5,12 @@ use Rattle.field.specs.Binary.{degree}
 use Rattle.field.specs.Degree.{degree-right, degree-above}
 use Rattle.field.specs.Division.{degree-less}
 use borrow.Author.Rules.{rules}
-use Rattle.field.proofs.modulus.field_of.Statement.{statement}
-use Rattle.field.proofs.modulus.field_of.Tie as tie
+use Rattle.field.proofs.modulus.field_of.Goals as goal
 
-degree-of-requires : tie.Need-degree-of-requires
-degree-of-requires c κs = search rules
-
-returns : tie.Need-returns
-returns c =
-    let a = c.before.args in
+pub returns : goal.returns
+returns c = let a = c.args in
     let e = c.degree_of.ensures in
     let d = degree-right a.m (omega arith) in
     let low : 3 ≤ degree a.m = degree-above 3 d (omega arith) in
     let high : degree a.m < 17 = degree-less a.m 17 (omega arith) (omega arith) in
     record { modulus = refl; sized = record { right = e; positive = omega arith; small = omega arith }; low = omega arith }
-
-pub field-of-spec : {M : Type 1} → statement M
-field-of-spec = tie.close (tie.spec degree-of-requires returns)

@@ -1,0 +1,42 @@
+use mathlib.Core.Path.{◌≡◌, refl, sym, ◌∙◌}
+use mathlib.Core.Logic.{inl, inr}
+use Prim.Native.Nat.{◌+◌, ◌-◌, ◌/◌, ◌%◌, ◌^◌, ◌≤◌, ◌<◌}
+use native.Mathlib.Omega.{arith}
+use borrow.Author.Rules.{rules}
+use Rattle.field.specs.Binary.{degree}
+use Rattle.field.specs.Decide.{irreducible_of_trials, reducible_of_factor, even_reducible, NoneBelow, none-below_three, none-below-more}
+use Rattle.field.specs.Division.{degree-less, trials_end}
+use Rattle.field.proofs.modulus.irreducible.Goals.{At-loop-d}
+use Rattle.field.proofs.modulus.irreducible.Goals as goal
+
+pub returns-then-m-eq0 : goal.returns-then-m-eq0
+returns-then-m-eq0 c = inr (refl, even_reducible c.args.m (omega arith) c.if-m-eq0.true)
+
+pub overflow_shl-end : goal.overflow_shl-end
+overflow_shl-end c = omega (arith, c.degree_of.ensures, degree-less c.args.m 17 (omega arith) (omega arith))
+
+pub loop-d-init : goal.loop-d-init
+loop-d-init c = let m = c.args.m in
+    let d = degree-less m 17 (omega arith) (omega arith) in
+    let e = c.degree_of.ensures in
+    rw e ((trials_end m d).0, (trials_end m d).1, omega arith, refl, none-below_three m c.if-m-eq0.false)
+
+pub returns-then-t-eq0 : goal.returns-then-t-eq0
+returns-then-t-eq0 c = let head = (goal.at.returns-then-t-eq0 c).At-loop-d in
+    let m = head.args.m in
+    inr (refl, reducible_of_factor m head.loop-d.d (omega arith) (omega arith) (sym c.divide-t.ensures.remainder ∙ c.if-t-eq0.true))
+
+pub loop-d-preserved : goal.loop-d-preserved
+loop-d-preserved c = let head = (goal.at.loop-d-preserved c).At-loop-d in
+    let inv = head.loop-d.invariant in
+    let m = head.args.m in (
+      inv.0,
+      inv.1,
+      omega arith,
+      omega arith,
+      none-below-more m head.loop-d.d head.if-m-eq0.false inv.3 inv.4 (λ e. c.if-t-eq0.false (c.divide-t.ensures.remainder ∙ e)),
+    )
+
+pub returns : goal.returns
+returns c = let inv = c.loop-d.invariant in
+    inl (refl, irreducible_of_trials c.args.m (omega arith) (λ f h b. inv.4 f (omega arith) h))
