@@ -9,7 +9,6 @@ use Rattle.lists.specs.Decides.{Decides, decides_true, decides_false}
 use Rattle.field.specs.Binary.{degree}
 use Rattle.field.specs.Checks.{modulus_checks, modulus_passed, not-less}
 use Rattle.field.specs.Calls.{NoSymbols, no-symbols, two-symbols}
-use borrow.Author.Rules.{rules}
 use Rattle.field.proofs.pair_refusal.Goals.{Start, Else-refusal-ne0, After-field_of-f, After-is_symbol-then-is_symbol}
 use Rattle.field.proofs.pair_refusal.Goals as goal
 
@@ -57,11 +56,11 @@ module _ (c : goal.After-is_symbol-then-is_symbol) where
 
 pub returns-then-is_symbol-2 : goal.returns-then-is_symbol-2
 returns-then-is_symbol-2 c = let t = (goal.at.returns-then-is_symbol-2 c).After-is_symbol-then-is_symbol in
-    two-symbols (m (found t)) (x t) (y t) (passes (found t).) (first t) (decides_true (y t < 2 ^ degree (m (found t))) (second t) c.if-is_symbol-2.true)
+    two-symbols (m (found t)) (x t) (y t) (passes (found t).before) (first t) (decides_true (y t < 2 ^ degree (m (found t))) (second t) c.if-is_symbol-2.true)
 
 pub returns-then-is_symbol : goal.returns-then-is_symbol
 returns-then-is_symbol c = let t = (goal.at.returns-then-is_symbol c).After-is_symbol-then-is_symbol in
-    no-symbols (m (found t)) (x t) (y t) (passes (found t).) (inr (not-less (decides_false (y t < 2 ^ degree (m (found t))) (second t) c.if-is_symbol-2.false)))
+    no-symbols (m (found t)) (x t) (y t) (passes (found t).before) (inr (not-less (decides_false (y t < 2 ^ degree (m (found t))) (second t) c.if-is_symbol-2.false)))
 
 pub returns : goal.returns
 returns c = let f = (goal.at.returns c).After-field_of-f in

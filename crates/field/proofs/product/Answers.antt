@@ -6,7 +6,6 @@ use native.Mathlib.Omega.{arith}
 use Rattle.lists.specs.Answers.{Answers, Passes}
 use Rattle.field.specs.Binary.{product}
 use Rattle.field.specs.Calls.{field_checks, Passed, passed}
-use borrow.Author.Rules.{rules}
 use Rattle.field.proofs.product.Goals.{Start, Else-refusal-ne0}
 use Rattle.field.proofs.product.Goals as goal
 

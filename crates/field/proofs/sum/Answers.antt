@@ -3,7 +3,6 @@ use native.Mathlib.Omega.{arith}
 use Rattle.lists.specs.Answers.{Answers}
 use Rattle.field.specs.Binary.{◌⊕◌}
 use Rattle.field.specs.Calls.{field_checks}
-use borrow.Author.Rules.{rules}
 use Rattle.field.proofs.sum.Goals as goal
 
 pub returns : goal.returns

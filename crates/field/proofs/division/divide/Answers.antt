@@ -1,8 +1,7 @@
 use mathlib.Core.Path.{◌≡◌, sym}
-use Prim.Native.Nat.{ℕ, suc, ◌+◌, ◌-◌, ◌/◌, ◌%◌, ◌^◌, ◌≤◌, ◌<◌}
+use Prim.Native.Nat.{ℕ, suc, ◌+◌, ◌-◌, ◌/◌, ◌%◌, ◌^◌, ◌<◌}
 use native.Mathlib.Omega.{arith}
-use borrow.Author.Rules.{rules}
-use Rattle.field.specs.Binary.{◌⊕◌, clmul, degree}
+use Rattle.field.specs.Binary.{◌⊕◌, degree}
 use Rattle.field.specs.Xor.{xor_zero_left}
 use Rattle.field.specs.Clmul.{clmul-zero-left}
 use Rattle.field.specs.Division.{degree-high, degree-less, bit_shifted-small, turn, divided}

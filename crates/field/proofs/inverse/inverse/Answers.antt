@@ -1,7 +1,7 @@
-use mathlib.Core.Path.{◌≡◌, ◌∙◌}
+use mathlib.Core.Path.{◌∙◌}
 use Prim.Native.Nat.{ℕ, ◌^◌, ◌<◌}
 use native.Mathlib.Omega.{arith}
-use Rattle.field.specs.Binary.{degree, product, Irreducible}
+use Rattle.field.specs.Binary.{degree, Irreducible}
 use Rattle.field.specs.Laws.{IsField, ⊗_1}
 use Rattle.field.specs.Product.{positive, product-below}
 use Rattle.field.specs.Symbols.{symbols, symbols-field}

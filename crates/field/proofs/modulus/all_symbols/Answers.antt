@@ -3,7 +3,6 @@ use lib.Pow.{pow_pos}
 use Rattle.lists.specs.All.{Below}
 use Rattle.lists.specs.Decides.{decides_same}
 use Rattle.field.specs.Binary.{degree}
-use borrow.Author.Rules.{rules}
 use Rattle.field.proofs.modulus.all_symbols.Goals as goal
 
 pub returns : goal.returns

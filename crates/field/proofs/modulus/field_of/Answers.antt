@@ -4,7 +4,6 @@ use native.Mathlib.Omega.{arith}
 use Rattle.field.specs.Binary.{degree}
 use Rattle.field.specs.Degree.{degree-right, degree-above}
 use Rattle.field.specs.Division.{degree-less}
-use borrow.Author.Rules.{rules}
 use Rattle.field.proofs.modulus.field_of.Goals as goal
 
 pub returns : goal.returns

@@ -1,10 +1,7 @@
-use mathlib.Core.Path.{◌≡◌, refl, sym, ◌∙◌}
+use mathlib.Core.Path.{refl, sym, ◌∙◌}
 use mathlib.Core.Logic.{inl, inr}
-use Prim.Native.Nat.{◌+◌, ◌-◌, ◌/◌, ◌%◌, ◌^◌, ◌≤◌, ◌<◌}
 use native.Mathlib.Omega.{arith}
-use borrow.Author.Rules.{rules}
-use Rattle.field.specs.Binary.{degree}
-use Rattle.field.specs.Decide.{irreducible_of_trials, reducible_of_factor, even_reducible, NoneBelow, none-below_three, none-below-more}
+use Rattle.field.specs.Decide.{irreducible_of_trials, reducible_of_factor, even_reducible, none-below_three, none-below-more}
 use Rattle.field.specs.Division.{degree-less, trials_end}
 use Rattle.field.proofs.modulus.irreducible.Goals.{At-loop-d}
 use Rattle.field.proofs.modulus.irreducible.Goals as goal

@@ -3,7 +3,6 @@ use Prim.Native.Nat.{ℕ, ◌/◌, ◌^◌, ◌<◌}
 use lib.Dec.{eqb}
 use Rattle.lists.specs.Decides.{Decides}
 use Rattle.field.specs.Ranges.{high-bits_test}
-use borrow.Author.Rules.{rules}
 use Rattle.field.proofs.modulus.is_symbol.Goals as goal
 
 pub returns : goal.returns

@@ -6,7 +6,6 @@ use Prim.Native.Nat.{ℕ}
 use native.Mathlib.Omega.{arith}
 use lib.ListN.{get_or}
 use lib.Pow.{pow_pos}
-use borrow.Author.Rules.{rules}
 use Rattle.lists.specs.Stretch.{Apart}
 use Rattle.field.specs.Binary.{◌⊕◌, degree, product}
 use Rattle.field.specs.Xor.{xor_zero_left, xor_zero_right}
@@ -27,7 +26,7 @@ one_product m a b =
 pub add_products-requires : goal.add_products-requires
 add_products-requires c = let start = (goal.at.add_products-requires c).Start in
     let zero-symbol = pow_pos (degree start.args.f.modulus) in
-    ((start.requires.0, zero-symbol), ((start.requires.1, tt), (zero-symbol, (start.requires.2, tt)), apart))
+    record { sized = (start.requires.0, zero-symbol); below = ((start.requires.1, tt), (zero-symbol, (start.requires.2, tt)), apart) }
 
 pub returns : goal.returns
 returns c = let a = c.args in

@@ -3,7 +3,6 @@ use Prim.Native.Nat.{ℕ, ◌+◌, ◌-◌, ◌*◌, ◌/◌, ◌%◌, ◌≤◌
 use native.Mathlib.Nat.{div-one, zero-mul}
 use native.Mathlib.Omega.{arith}
 use lib.Pow.{pow_mono, shl_exact, shl-shr}
-use borrow.Author.Rules.{rules}
 use Rattle.field.specs.Binary.{◌⊕◌, degree, product}
 use Rattle.field.specs.Degree.{degree-positive-number}
 use Rattle.field.specs.Product.{product-below, product-zero-right}

@@ -2,7 +2,6 @@ use Prim.Native.Nat.{◌/◌}
 use native.Mathlib.Omega.{arith}
 use Rattle.field.specs.Binary.{◌⊕◌}
 use mathlib.Core.Path.{refl}
-use borrow.Author.Rules.{rules}
 use Rattle.field.proofs.Aligned.{bit_times-le}
 use Rattle.field.proofs.products.twice.Goals as goal
 
