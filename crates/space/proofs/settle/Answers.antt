@@ -1,4 +1,5 @@
--- `space::settle` meets its contract. Assumes nothing.
+--
+-- the two outcomes of the tables
 use mathlib.Core.Path.{◌≡◌, refl, ap}
 use mathlib.Core.Logic.{inl, inr}
 use mathlib.Core.Bool.{true, false}
@@ -12,11 +13,9 @@ use Rattle.field.specs.declared.Field.{Field}
 use Rattle.space.specs.Setting.{Tabled, Made, tables_of, no_tables, padded_of, setting_of, no_setting}
 use Rattle.space.specs.declared.Tables.{Tables}
 use Rattle.space.specs.declared.Checked.{Checked}
-use borrow.Author.Rules.{rules}
-use Rattle.space.proofs.settle.Statement.{statement}
-use Rattle.space.proofs.settle.Tie as tie
+use Rattle.space.proofs.settle.Goals.{Start}
+use Rattle.space.proofs.settle.Goals as goal
 
--- the two outcomes of the tables
 made_all : (f : Field) (bs : List ℕ) (σ : ℕ) (t : Tables) (p : List ℕ) → Sized f → Tabled f.modulus bs t → t.independent ≡ true → p ≡ padded_of bs
     → Made f.modulus bs σ (record { refusal = 0; setting = record { field = f; space = record { k = length bs; images = t.images }; basis = p; shift = σ; steps = t.steps; inverses = t.inverses } })
 unfolding setting_of tables_of no_tables
@@ -33,27 +32,12 @@ unfolding tables_of
 made_none m bs σ t c (inl (ind, e)) i er es = absurd (true_not_false (ap (λ (u : Tables). u.independent) e) i)
 made_none m bs σ t c (inr (dep, e)) i er es = inr ((omega arith, inl (dep, er)), es)
 
-tabulate-requires : tie.Need-tabulate-requires
-tabulate-requires c κs = search rules
+pub returns-then-independent : goal.returns-then-independent
+returns-then-independent c = let start = (goal.at.returns-then-independent c).Start in
+    let t = c.tabulate-t in
+    made_all start.args.f start.args.basis.now start.args.shift t.result c.padded.result start.requires.0 t.ensures c.if-independent.true c.padded.ensures
 
-padded-requires : tie.Need-padded-requires
-padded-requires c κs = search rules
-
-returns : tie.Need-returns
-returns c =
-    let start = c.before.before.before.before.before.before.before in
-    let t = c.before.before.before.before.before.tabulate in
-    made_all start.args.f start.args.basis.now start.args.shift t.result c.padded.result start.requires.0 t.ensures c.before.if1.true c.padded.ensures
-
-refused-requires : tie.Need-refused-requires
-refused-requires c κs = search rules
-
-returns-2 : tie.Need-returns-2
-returns-2 c =
-    let start = c.before.before.before.before.before.before.before in
-    let t = c.before.before.before.before.before.tabulate in
-    made_none start.args.f.modulus start.args.basis.now start.args.shift t.result c.refused.result t.ensures c.before.if1.false c.refused.ensures.0 c.refused.ensures.1
-
-pub settle-spec : {M : Type 1} → statement M
-settle-spec =
-    tie.close (tie.spec tabulate-requires padded-requires returns refused-requires returns-2)
+pub returns : goal.returns
+returns c = let start = (goal.at.returns c).Start in
+    let t = c.tabulate-t in
+    made_none start.args.f.modulus start.args.basis.now start.args.shift t.result c.refused.result t.ensures c.if-independent.false c.refused.ensures.0 c.refused.ensures.1
