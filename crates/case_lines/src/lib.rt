@@ -3,7 +3,7 @@
 #![tactic(auto)]
 ghost use Rattle.std.specs.Prelude.{◌≤◌};
 
-use libc::STDOUT_FILENO;
+use streams::STDOUT_FILENO;
 
 pub fn one_if(b: bool) -> usize
     ensures { result ≤ 1 }

@@ -8,7 +8,7 @@ mod text;
 
 use case_lines::{cleared, figure, numbers};
 use codec::Outcome;
-use libc::{STDIN_FILENO, STDOUT_FILENO};
+use streams::{STDIN_FILENO, STDOUT_FILENO};
 use text::{at_most, decimal, list, part, place};
 
 fn outcome(label: &[u8], r: Outcome) {

@@ -1,5 +1,6 @@
 // The totals over all coins of a stored file.
 #![tactic(auto)]
+
 mod off;
 mod symbols;
 pub mod tally;

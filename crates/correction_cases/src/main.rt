@@ -7,7 +7,7 @@ mod large;
 
 use case_lines::{cleared, figure, numbers};
 use correction::Correction;
-use libc::STDOUT_FILENO;
+use streams::STDOUT_FILENO;
 
 fn answer(label: &[u8], r: Correction) {
     io::write_all(STDOUT_FILENO, label);

@@ -5,7 +5,7 @@
 ghost use Rattle.std.specs.Prelude.{◌≡◌, length};
 ghost use Rattle.stored.specs.File.{file_limit};
 
-use libc::{STDERR_FILENO, STDIN_FILENO, STDOUT_FILENO};
+use streams::{STDERR_FILENO, STDIN_FILENO, STDOUT_FILENO};
 use report::{Entry, Total};
 use stored::FILE_LIMIT;
 

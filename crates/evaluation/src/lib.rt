@@ -1,6 +1,7 @@
 // The word of a polynomial: its values at the elements of the space, in a setting that passed its
 // checks. The word is told by its eight blocks, which are lanes.
 #![tactic(auto)]
+
 ghost use Rattle.std.specs.Prelude.{◌≡◌, ◌+◌, ◌*◌, ◌^◌, ◌≤◌, length};
 ghost use Rattle.lists.specs.All.{Below};
 ghost use Rattle.field.specs.Binary.{degree};

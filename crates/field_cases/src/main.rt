@@ -2,7 +2,7 @@
 // borders of the checks: a line for each, held to the file stdout.
 #![tactic(auto)]
 use field::Value;
-use libc::STDOUT_FILENO;
+use streams::STDOUT_FILENO;
 
 // The label, then what came of it: the symbol in decimal, or the number of the refusal.
 fn show(label: &[u8], v: Value) {

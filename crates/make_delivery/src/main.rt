@@ -7,7 +7,7 @@ ghost use Rattle.std.specs.Prelude.{◌≡◌, length};
 ghost use Rattle.stored.specs.File.{file_limit};
 
 use delivery::Made;
-use libc::{STDERR_FILENO, STDIN_FILENO, STDOUT_FILENO};
+use streams::{STDERR_FILENO, STDIN_FILENO, STDOUT_FILENO};
 use stored::FILE_LIMIT;
 
 fn room() -> [u8; FILE_LIMIT]

@@ -1,6 +1,7 @@
 // Between coefficients of powers of x and those over the novel basis: the products of W_j, each over
 // its step.
 #![tactic(auto)]
+
 pub mod convert;
 pub mod shift;
 

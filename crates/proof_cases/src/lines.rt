@@ -1,6 +1,6 @@
 // The lines that the cases print.
 use codec::Outcome;
-use libc::STDOUT_FILENO;
+use streams::STDOUT_FILENO;
 use verifier::{Rejection, Verdict};
 
 pub fn line(label: &[u8], middle: &[u8], n: u64) {

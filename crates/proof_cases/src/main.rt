@@ -6,7 +6,7 @@ mod short;
 
 ghost use Rattle.std.specs.Prelude.{◌≤◌};
 
-use libc::STDOUT_FILENO;
+use streams::STDOUT_FILENO;
 use lines::{line, outcome, verdict};
 use verifier::Verdict;
 

@@ -1,5 +1,6 @@
 // The layout of a proof of proximity and the line that a coin takes, by dimension.
 #![tactic(auto)]
+
 pub mod lines;
 pub mod places;
 pub mod spaces;

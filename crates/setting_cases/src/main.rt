@@ -1,6 +1,6 @@
 // Checks 1 to 5 at their borders, and case P4: a line for each, held to the file stdout.
 #![tactic(auto)]
-use libc::STDOUT_FILENO;
+use streams::STDOUT_FILENO;
 
 fn number(n: u64) {
     io::print_decimal(STDOUT_FILENO, n);

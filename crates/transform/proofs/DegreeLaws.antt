@@ -4,6 +4,7 @@ use mathlib.Core.Logic.{◌≢◌}
 use mathlib.Core.Bool.{Bool, true, false}
 use mathlib.Core.List.{List, map}
 use Prim.Native.Nat.{ℕ, suc, ◌+◌, ◌-◌, ◌*◌, ◌/◌, ◌^◌, ◌≤◌, ◌<◌}
+use native.Mathlib.Nat.{mul_comm}
 use native.Mathlib.Omega.{arith}
 use lib.ListN.{length, get_or, take, drop, length-take, length-drop, length-map, take-append-drop, get_or-map}
 use lib.Pow.{pow_mono}
@@ -11,7 +12,7 @@ use lib.Seq.{get_or-drop, length-take-le}
 use Rattle.lists.specs.All.{All, Below, All-of, All-take, All-drop}
 use Rattle.lists.specs.Decides.{Decides, decides_true, decides_false}
 use Rattle.lists.specs.Lanes.{lane, get_or_lane, lane_take, lanes_same, lanes_each}
-use Rattle.lists.specs.Tables.{part, part_append, length_part, get_d_part}
+use Rattle.lists.specs.Tables.{part, part-fits, part_append, length_part, get_d_part}
 use Rattle.field.specs.Binary.{◌⊕◌, degree, Irreducible}
 use Rattle.field.specs.Laws.{Ops, IsField, 0_⊕}
 use Rattle.field.specs.Symbols.{symbols, symbols-field}
@@ -117,16 +118,18 @@ pub zeros-small : (m : ℕ) (xs : List ℕ) → 0 < m → ((p : ℕ) → get_or 
 zeros-small m xs h z = All-of (λ (x : ℕ). x < m) xs 0 (λ i l. subst (λ (x : ℕ). x < m) (sym (z i)) h)
 
 -- blocks that are put after one another have the numbers of the lanes
-pub transposed_small : (P : ℕ → Type 0) (size : ℕ) (blocks old out : List ℕ) → 8 * size ≤ length blocks → 8 * size ≤ length out → Transposed size 8 blocks old out → All P (take (8 * size) blocks)
-    → All P (take (8 * size) out)
-transposed_small P size blocks old out lb lo t a =
-    lanes_each P size 8 (take (8 * size) out) (length-take-le (8 * size) out lo)
-    (λ o l. subst (All P) (sym (lane_take size o 8 (8 * size) l refl out ∙ t.lanes o l ∙ inside o l)) (All-take P 8 (drop (o * 8) (take (8 * size) blocks)) (All-drop P (o * 8) (take (8 * size) blocks) a)))
+pub transposed_small : (P : ℕ → Type 0) (rows size : ℕ) (blocks old out : List ℕ) → size * rows ≤ length blocks → size * rows ≤ length out
+    → Transposed rows size blocks old out → All P (take (size * rows) blocks) → All P (take (size * rows) out)
+transposed_small P rows size blocks old out lb lo t a =
+    lanes_each P rows size (take (size * rows) out) (length-take-le (size * rows) out lo)
+    (λ o l. subst (All P) (sym (lane_take rows o size (size * rows) l refl out ∙ t.lanes o l ∙ inside o l))
+    (All-take P size (drop (o * size) (take (size * rows) blocks)) (All-drop P (o * size) (take (size * rows) blocks) a)))
   where
-    inside : (o : ℕ) → o < size → part 8 o blocks ≡ part 8 o (take (8 * size) blocks)
+    inside : (o : ℕ) → o < rows → part size o blocks ≡ part size o (take (size * rows) blocks)
     inside o l =
-        ap (part 8 o) (sym (take-append-drop (8 * size) blocks))
-        ∙ part_append 8 o (take (8 * size) blocks) (drop (8 * size) blocks) (omega (arith, length-take-le (8 * size) blocks lb))
+        ap (part size o) (sym (take-append-drop (size * rows) blocks))
+        ∙ part_append size o (take (size * rows) blocks) (drop (size * rows) blocks)
+        (omega (arith, length-take-le (size * rows) blocks lb, part-fits {i = o} {n = rows} size l, mul_comm rows size))
 
 -- ---- the two answers
 

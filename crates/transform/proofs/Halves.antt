@@ -5,10 +5,12 @@ use Prim.Native.Nat.{ℕ, ◌+◌, ◌-◌, ◌*◌, ◌/◌, ◌^◌, ◌≤◌
 use native.Mathlib.Nat.{add-mul, pow-suc, le_refl}
 use native.Mathlib.Numerals.{add-one}
 use native.Mathlib.Omega.{arith}
+use borrow.Rule.Slice.PartMut.{put_mid}
 use lib.ListN.{length, get_or, take, drop, length-append, length-drop}
 use lib.Pow.{pow_pos}
 use lib.Seq.{take_at, drop_at, length-take-le}
-use Rattle.lists.specs.All.{Below, All-at, All-of, All-append}
+use Rattle.lists.specs.All.{Below, All-at, All-of, All-append, All-take, All-drop}
+use Rattle.lists.specs.Overwrite.{second-lent, both-back}
 use Rattle.lists.specs.Tables.{part-fits}
 use Rattle.lists.specs.Lanes.{lane, length_lane, lane_append, lane_drop}
 use Rattle.field.specs.Binary.{◌⊕◌, degree}
@@ -85,6 +87,56 @@ module _ (f : Field) (images lanes : List ℕ) (count m : ℕ) (shift old : List
     where
       at : (xs : List ℕ) → Below (2 ^ degree f.modulus) xs → (p : ℕ) → get_or xs p 0 < 2 ^ degree f.modulus
       at xs b = All-at (λ y. y < 2 ^ degree f.modulus) xs 0 b (pow_pos (degree f.modulus))
+
+-- ---- the parts that the calls are lent, of values that are as long
+
+module _ (f : Field) (images lanes : List ℕ) (count m : ℕ) (shift old : List ℕ) (pre : InLanes f images lanes count m shift old) (pos : 0 < m)
+    (zs : List ℕ) (kept : length zs ≡ length old) where
+  abbrev half : ℕ
+  half = length old / 2
+
+  half_is : half ≡ 2 ^ (m - 1) * count
+  half_is = half_length f images lanes count m shift old pre pos
+
+  twice_half : length zs ≡ half + half
+  twice_half =
+      kept
+      ∙ omega (arith, half_is, two_halves f images lanes count m shift old pre pos, add-mul (2 ^ (m - 1)) (2 ^ (m - 1)) count)
+
+  pub length_lower : length (take half zs) ≡ half
+  length_lower = length-take-le half zs (omega (arith, twice_half))
+
+  pub lower_taken : Below (2 ^ degree f.modulus) zs → InLanes f images lanes count (m - 1) shift (take half zs)
+  lower_taken b =
+      in_half f images lanes count m shift old pre pos shift (take half zs) pre.shift_symbols (length_lower ∙ half_is)
+      (All-take (λ (x : ℕ). x < 2 ^ degree f.modulus) half zs b)
+
+  module _ (first : List ℕ) (e : length first ≡ length (take half zs)) where
+    abbrev joined : List ℕ
+    joined = first ++ drop half zs
+
+    first_long : length first ≡ half
+    first_long = e ∙ length_lower
+
+    -- the part that the second call is lent
+    abbrev pub second-arg : List ℕ
+    second-arg = take (length joined - half) (drop half joined)
+
+    pub second-arg-is : second-arg ≡ drop half zs
+    second-arg-is = second-lent half zs first first_long twice_half
+
+    length-second-arg : length second-arg ≡ half
+    length-second-arg = ap length second-arg-is ∙ length-drop half zs ∙ omega (arith, twice_half)
+
+    pub upper_taken : Below (2 ^ degree f.modulus) zs → (x : List ℕ) → Shifted images (m - 1) shift x → InLanes f images lanes count (m - 1) x second-arg
+    upper_taken b x s =
+        in_half f images lanes count m shift old pre pos x second-arg (shifted-below f images lanes count m shift old pre pos x s)
+        (length-second-arg ∙ half_is)
+        (subst (Below (2 ^ degree f.modulus)) (sym second-arg-is) (All-drop (λ (x : ℕ). x < 2 ^ degree f.modulus) half zs b))
+
+    -- both parts put back
+    pub back_is : (second : List ℕ) → put_mid half (length joined - half) joined second ≡ first ++ second
+    back_is second = both-back half zs first first_long twice_half second
 
 -- the shift of the upper half in lane r
 upper_shift : (images lanes : List ℕ) (count m : ℕ) (shift x : List ℕ) → m ≤ max_dim → Shifted images m shift x → (q r i : ℕ) → i < m

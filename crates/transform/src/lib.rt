@@ -5,6 +5,7 @@
 // degree i. 2^m lists of one length, one after the other, hold a transform of 2^m symbols in each
 // lane: lane r has symbol r of each list.
 #![tactic(auto)]
+
 pub mod blocks;
 pub mod degree;
 pub mod lanes;

@@ -1,0 +1,80 @@
+use mathlib.Core.Path.{◌≡◌, refl, sym}
+use mathlib.Core.List.{List}
+use Prim.Native.Nat.{ℕ, ◌^◌, ◌≤◌}
+use native.Mathlib.Omega.{arith}
+use lib.ListN.{length, take}
+use lib.Seq.{length-take-le}
+use Rattle.stored.specs.Bytes.{numbers_at}
+use Rattle.stored.specs.CheckLaws.{read-passes}
+use Rattle.stored.specs.File.{file_limit, small_dim, modulus_in, basis_in, word_in}
+use Rattle.stored.specs.declared.Reading.{Reading}
+use Rattle.coins.specs.Answer.{told-long, told_refused, told_totals}
+use Rattle.coins.specs.Tally.{Readable}
+use Rattle.coins.specs.Totals.{Off}
+use Rattle.coins.proofs.FileSymbols.{symbol_count, small, few_symbols, word-front, word_set, word_off}
+use Rattle.coins.proofs.count.Goals.{After-read-r, After-word_of-places, After-off-off}
+use Rattle.coins.proofs.count.Goals as goal
+
+pub returns-then-file-gt-FILE_LIMIT : goal.returns-then-file-gt-FILE_LIMIT
+returns-then-file-gt-FILE_LIMIT c = told-long c.args.file.now c.refused.result c.if-file-gt-FILE_LIMIT.true c.refused.ensures
+
+pub returns-then-number-ne0 : goal.returns-then-number-ne0
+returns-then-number-ne0 c = let t = (goal.at.returns-then-number-ne0 c).After-read-r in
+    told_refused t.args.file.now c.refused-then-number-ne0.result t.if-file-gt-FILE_LIMIT.false t.read-r.result t.read-r.ensures c.if-number-ne0.true c.refused-then-number-ne0.ensures
+
+-- the word is decoded
+module _ (c : goal.After-word_of-places) where
+  abbrev reading : goal.After-read-r
+  reading = (goal.at.After-word_of-places c).After-read-r
+
+  abbrev bytes : List ℕ
+  bytes = reading.args.file.now
+
+  abbrev found : Reading
+  found = reading.read-r.result
+
+  read : Readable bytes found
+  read = (reading.read-r.ensures, c.if-number-ne0.false)
+
+  short : length bytes ≤ file_limit
+  short = reading.if-file-gt-FILE_LIMIT.false
+
+  abbrev word : List ℕ
+  word = take (symbol_count found.setting.space.k) c.word_of-places.result
+
+  few : symbol_count found.setting.space.k ≤ 2 ^ small_dim
+  few = few_symbols bytes found read short
+
+  long : length word ≡ symbol_count found.setting.space.k
+  long = length-take-le _ _ (omega (arith, few, c.word_of-places.ensures.0))
+
+  word-is : word ≡ numbers_at found.narrow bytes found.word (2 ^ found.setting.space.k)
+  word-is = word-front bytes found read short c.word_of-places.result c.word_of-places.ensures.1
+
+pub overflow_shl-places : goal.overflow_shl-places
+overflow_shl-places c = let t = (goal.at.overflow_shl-places c).After-word_of-places in omega (arith, small (bytes t) (found t) (read t) (short t))
+
+pub slice_bounds-places-end : goal.slice_bounds-places-end
+slice_bounds-places-end c = let t = (goal.at.slice_bounds-places-end c).After-word_of-places in omega (arith, few t, t.word_of-places.ensures.0)
+
+pub slice_bounds-word-end : goal.slice_bounds-word-end
+slice_bounds-word-end c = sym (long (goal.at.slice_bounds-word-end c).After-word_of-places)
+
+pub off-off-requires : goal.off-off-requires
+off-off-requires c = let t = (goal.at.off-off-requires c).After-word_of-places in
+    (word_set (bytes t) (found t) (read t) (short t) (word t) (word-is t), omega (arith, long t, few t))
+
+-- how far the file's word is off
+module _ (c : goal.After-off-off) where
+  abbrev decoded : goal.After-word_of-places
+  decoded = (goal.at.After-off-off c).After-word_of-places
+
+  word-differs : Off (modulus_in (bytes decoded)) (basis_in (bytes decoded)) (word_in (bytes decoded)) c.off-off.result
+  word-differs = let t = decoded in word_off (bytes t) (found t) (read t) (short t) (word t) c.off-off.result (word-is t) c.off-off.ensures
+
+pub all_coins-t-requires : goal.all_coins-t-requires
+all_coins-t-requires c = let t = decoded c in (read t, short t)
+
+pub returns : goal.returns
+returns c = let t = decoded (goal.at.returns c).After-off-off in
+    told_totals (bytes t) _ (short t) (read-passes (bytes t) (found t) (read t).0 (read t).1) refl (record { swept = c.all_coins-t.ensures; off = word-differs (goal.at.returns c).After-off-off })

@@ -1,0 +1,10 @@
+-- `novel::convert::power` meets its contract. Assumes nothing.
+use mathlib.Core.Path.{◌∙◌}
+use Prim.Native.Nat.{◌^◌}
+use native.Mathlib.Nat.{one-mul}
+use native.Mathlib.Omega.{arith}
+use lib.Pow.{shl_exact}
+use Rattle.novel.proofs.convert.power.Goals as goal
+
+pub returns : goal.returns
+returns c = shl_exact {a = 1} 1 c.args.j 64 (omega arith) (omega arith) ∙ one-mul (2 ^ c.args.j)
