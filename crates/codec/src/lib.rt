@@ -1,6 +1,7 @@
 // Encoder and decoder. A call makes its checks in order; a refusal leaves its output as it came, and
 // past check 7 the scratch is zero.
 #![tactic(auto)]
+
 mod decoder;
 mod encoder;
 

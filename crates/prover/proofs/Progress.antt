@@ -23,7 +23,7 @@ use Rattle.space.specs.Sizes.{max_dim, max_line}
 use Rattle.proximity.specs.Dim.{half, row_dim, col_dim, dim, S}
 use Rattle.proximity.specs.Tree.{S_leaf, S_node}
 use Rattle.proximity.specs.Spaces.{row_basis}
-use Rattle.proximity.specs.Proof.{slot, row, column}
+use Rattle.proximity.specs.Proof.{slot, row}
 use Rattle.proximity.specs.Prover.{Written, columns_codewords}
 use Rattle.proximity.specs.Steps.{written_leaf, written_node}
 use Rattle.proximity.specs.Layout.{seven}

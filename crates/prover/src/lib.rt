@@ -1,6 +1,7 @@
 // The prover: the proof of a codeword. A call makes its checks in order; a refusal leaves the proof
 // as it came, and past check 7 the scratch is zero.
 #![tactic(auto)]
+
 mod write;
 
 ghost use Rattle.std.specs.Prelude.{◌≡◌, ◌≤◌};

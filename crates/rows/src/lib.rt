@@ -1,5 +1,6 @@
 // The stored rows of a proof. All rows are made at once, in lanes: row r is lane r.
 #![tactic(auto)]
+
 pub mod words;
 
 ghost use Rattle.std.specs.Prelude.{◌≡◌, ℕ, ◌+◌, ◌*◌, ◌^◌, ◌<◌, ◌≤◌, length, get_or, take};
