@@ -1,6 +1,7 @@
 // The codeword that is near a word, within half the distance of the code (mending, in the papers): Gao's
 // decoder, whose cost grows with the number of differences.
 #![tactic(auto)]
+
 mod candidate;
 mod division;
 pub mod nearest;

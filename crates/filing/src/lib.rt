@@ -1,5 +1,6 @@
 // Stored files written: from a setting, a word and a proof, and from a file of the other form.
 #![tactic(auto)]
+
 mod conversion;
 mod put;
 pub mod writer;

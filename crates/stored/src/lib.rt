@@ -1,5 +1,6 @@
 // The stored file, in two forms: three records, numbers lowest byte first.
 #![tactic(auto)]
+
 pub mod bytes;
 mod check;
 pub mod forms;
