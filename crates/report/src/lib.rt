@@ -1,5 +1,6 @@
 // The report over a stream of stored files, one after the other.
 #![tactic(auto)]
+
 pub mod window;
 
 ghost use Rattle.std.specs.Prelude.{◌≡◌};
