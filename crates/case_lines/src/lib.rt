@@ -1,6 +1,7 @@
 // Parts of the lines that programs with cases print: a text with its number, a list of symbols, and
 // the number of zeros in a scratch.
 #![tactic(auto)]
+
 ghost use Rattle.std.specs.Prelude.{◌≤◌};
 
 use streams::STDOUT_FILENO;

@@ -15,9 +15,11 @@ use Rattle.field.specs.Symbols.{symbols}
 use Rattle.poly.specs.Poly.{eval}
 use Rattle.poly.specs.Novel.{eval_x}
 use Rattle.poly.specs.Codeword.{word_of, Codeword}
-use Rattle.poly.specs.Span.{elem, elem_sym}
-use Rattle.poly.specs.Shift.{word_at, word-at-back, word-at-zero}
-use Rattle.poly.specs.Blocks.{codeword_values}
+use Rattle.poly.specs.Span.{elem}
+use Rattle.poly.proofs.Span.{elem_sym}
+use Rattle.poly.specs.Shift.{word_at}
+use Rattle.poly.proofs.Shift.{word-at-back, word-at-zero}
+use Rattle.poly.proofs.Blocks.{codeword_values}
 use Rattle.space.specs.Ready.{Ready}
 use Rattle.space.specs.Usable.{Usable, usable, ready_field, ready_basis}
 use Rattle.space.specs.declared.Setting.{Setting}

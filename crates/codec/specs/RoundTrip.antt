@@ -7,9 +7,12 @@ use Rattle.lists.specs.Tables.{length_tab, All-tab}
 use Rattle.field.specs.Binary.{degree}
 use Rattle.field.specs.Laws.{IsField}
 use Rattle.field.specs.Symbols.{symbols}
-use Rattle.poly.specs.Poly.{eval, eval_sym}
-use Rattle.poly.specs.Span.{elem, elem_sym}
-use Rattle.poly.specs.Shift.{word_at, decode_unique_at}
+use Rattle.poly.specs.Poly.{eval}
+use Rattle.poly.proofs.Poly.{eval_sym}
+use Rattle.poly.specs.Span.{elem}
+use Rattle.poly.proofs.Span.{elem_sym}
+use Rattle.poly.specs.Shift.{word_at}
+use Rattle.poly.proofs.Shift.{decode_unique_at}
 use Rattle.space.specs.Setting.{setting_checks}
 use Rattle.space.specs.Sound.{Sound, sound, sound_field, setting_numbered}
 use Rattle.codec.specs.declared.Outcome.{Outcome}

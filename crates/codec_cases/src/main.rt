@@ -3,6 +3,7 @@
 // shifts; then there and back at dimension 14. A line for each call, with its output and the number of
 // zeros in the scratch, held to the file stdout. Outputs come in as nines, the scratch as sevens.
 #![tactic(auto)]
+
 mod largest;
 mod text;
 

@@ -1,12 +1,13 @@
 // Tries all coins of the stored file on standard input, and prints the totals, or the number of the
 // refusal. A write that failed is told on standard error.
 #![tactic(auto)]
+
 ghost use Rattle.std.specs.Prelude.{◌≡◌, length, ◌+◌};
 ghost use Rattle.stored.specs.File.{file_limit};
 
 use coins::{Counts, Distance};
-use streams::{STDERR_FILENO, STDIN_FILENO, STDOUT_FILENO};
 use stored::FILE_LIMIT;
+use streams::{STDERR_FILENO, STDIN_FILENO, STDOUT_FILENO};
 
 // One byte more than a file may have.
 fn input() -> [u8; FILE_LIMIT + 1]

@@ -14,9 +14,9 @@ use Rattle.space.specs.Usable.{own_ready}
 use Rattle.correction.specs.Start.{InSetting}
 use Rattle.proximity.specs.Dim.{S}
 use Rattle.verifier.proofs.Laws.{one_shifted}
-use Rattle.stored.specs.Accepted.{accepted, read_places}
+use Rattle.stored.proofs.Accepted.{accepted, read_places}
 use Rattle.stored.specs.Bytes.{numbers_at}
-use Rattle.stored.specs.CheckLaws.{read-passes, read_ready, read_dimension, read_below}
+use Rattle.stored.proofs.CheckLaws.{read-passes, read_ready, read_dimension, read_below}
 use Rattle.stored.specs.File.{file_limit, small_dim, form_in, modulus_in, degree_in, dim_in, basis_in, word_in}
 use Rattle.stored.specs.Packed.{length_numbers}
 use Rattle.stored.specs.Passed.{length_basis}

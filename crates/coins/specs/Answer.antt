@@ -17,8 +17,9 @@ use Rattle.proximity.specs.Dim.{dim, S, R}
 use Rattle.proximity.specs.Verdict.{verdict, degree_exists}
 use Rattle.proximity.specs.Verifier.{Accepts, positions, leaf_dim}
 use Rattle.verifier.specs.Checker.{symbols_at, reads_of}
-use Rattle.stored.specs.Accepted.{Accepted, accepted, told_refuses}
-use Rattle.stored.specs.CheckLaws.{coin_passes}
+use Rattle.stored.specs.Accepted.{Accepted}
+use Rattle.stored.proofs.Accepted.{accepted, told_refuses}
+use Rattle.stored.proofs.CheckLaws.{coin_passes}
 use Rattle.stored.specs.File.{file_limit, word_start, proof_start, form_in, modulus_in, degree_in, dim_in, basis_in, narrow_in, word_in, proof_in}
 use Rattle.stored.specs.InRange.{symbols-below}
 use Rattle.stored.specs.Packed.{length_numbers}

@@ -7,7 +7,7 @@ use Rattle.verifier.specs.Checker.{reads_of}
 use Rattle.verifier.specs.declared.Verdict.{Verdict}
 use Rattle.verifier.specs.declared.Verdict.TheVariants.{Accept, Reject, Refused}
 use Rattle.stored.specs.Check.{coin_checks, AnsweredFile}
-use Rattle.stored.specs.CheckLaws.{coin_passes}
+use Rattle.stored.proofs.CheckLaws.{coin_passes}
 use Rattle.stored.specs.File.{dim_in}
 use Rattle.stored.specs.Reader.{file_checks}
 use Rattle.stored.specs.declared.Reading.{Reading}

@@ -1,11 +1,12 @@
 // Reads a stored file of at most 40000 bytes on standard input and writes it in the other form on
 // standard output. The number that refuses it, and a write that failed, go to standard error.
 #![tactic(auto)]
+
 ghost use Rattle.std.specs.Prelude.{◌≡◌, ◌+◌, ◌≤◌, length};
 ghost use Rattle.stored.specs.File.{file_limit};
 
-use streams::{STDERR_FILENO, STDIN_FILENO, STDOUT_FILENO};
 use stored::FILE_LIMIT;
+use streams::{STDERR_FILENO, STDIN_FILENO, STDOUT_FILENO};
 
 // One byte more than a file may have.
 fn input() -> [u8; FILE_LIMIT + 1]

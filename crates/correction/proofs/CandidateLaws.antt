@@ -24,7 +24,8 @@ use Rattle.space.specs.Ready.{Ready}
 use Rattle.space.specs.declared.Setting.{Setting}
 use Rattle.space.specs.Usable.{usable, ready_field}
 use Rattle.novel.specs.Settings.{stepped, steps_of}
-use Rattle.poly.specs.Coefficients.{coeff, Low, low_length, eval-coeff}
+use Rattle.poly.specs.Coefficients.{coeff, Low, low_length}
+use Rattle.poly.proofs.Coefficients.{eval-coeff}
 use Rattle.correction.specs.Candidate.{Loaded, Beginning, Begun, Prepared}
 use Rattle.correction.specs.Scratch.{scratch_words}
 use Rattle.correction.specs.Pairs.{poly_at, Pairs}

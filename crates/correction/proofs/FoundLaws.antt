@@ -10,8 +10,9 @@ use Rattle.lists.specs.All.{All-at}
 use Rattle.field.specs.Binary.{degree, product, inverse}
 use Rattle.field.specs.Laws.{Ops, IsField}
 use Rattle.field.specs.Symbols.{symbols}
-use Rattle.poly.specs.Span.{elem, elem_sym}
-use Rattle.poly.specs.Codeword.{basis_distinct}
+use Rattle.poly.specs.Span.{elem}
+use Rattle.poly.proofs.Span.{elem_sym}
+use Rattle.poly.proofs.Codeword.{basis_distinct}
 use Rattle.poly.specs.Blocks.{eighths}
 use Rattle.space.specs.Ready.{Ready}
 use Rattle.space.specs.declared.Setting.{Setting}

@@ -14,11 +14,15 @@ use Rattle.field.specs.Binary.{degree, Irreducible}
 use Rattle.field.specs.Laws.{Ops, IsField, ring, 0_⊕}
 use Rattle.field.specs.Symbols.{symbols, symbols-field}
 use Rattle.field.specs.declared.Field.{Field}
-use Rattle.poly.specs.Poly.{eval, eval-zeros}
-use Rattle.poly.specs.Span.{elem, elem_sym}
-use Rattle.poly.specs.Novel.{eval_x, image-zero, W-next, W-elem}
+use Rattle.poly.specs.Poly.{eval}
+use Rattle.poly.proofs.Poly.{eval-zeros}
+use Rattle.poly.specs.Span.{elem}
+use Rattle.poly.proofs.Span.{elem_sym}
+use Rattle.poly.specs.Novel.{eval_x}
+use Rattle.poly.proofs.Novel.{image-zero, W-next, W-elem}
 use Rattle.poly.specs.Transform.{unfolded, shifted, inverse}
-use Rattle.poly.specs.Values.{table, images_of, inverse-at}
+use Rattle.poly.specs.Values.{table, images_of}
+use Rattle.poly.proofs.Values.{inverse-at}
 use Rattle.poly.specs.Codeword.{Basis}
 use Rattle.space.specs.Images.{Images}
 use Rattle.space.specs.Sizes.{lane_cells}

@@ -13,7 +13,8 @@ use Rattle.field.specs.Binary.{degree}
 use Rattle.field.specs.Laws.{Ops}
 use Rattle.field.specs.Symbols.{symbols}
 use Rattle.poly.specs.Poly.{eval}
-use Rattle.poly.specs.Span.{elem, elem_sym}
+use Rattle.poly.specs.Span.{elem}
+use Rattle.poly.proofs.Span.{elem_sym}
 use Rattle.space.specs.Ready.{Ready}
 use Rattle.space.specs.declared.Setting.{Setting}
 use Rattle.transform.specs.Blocks.{InBlocks}

@@ -6,8 +6,10 @@ use lib.ListN.{length, get_or, set, take, length-take}
 use Rattle.lists.specs.All.{All, All-take, IsZero}
 use Rattle.lists.specs.Pick.{pick, pick_true, pick_false}
 use Rattle.field.specs.Laws.{Ops, IsField}
-use Rattle.poly.specs.Poly.{Distinct, eval, quot, length_quot, quot_sym, quot-root, quot-zeros, head-zero, eval-zeros}
-use Rattle.poly.specs.Coefficients.{coeff, Low, eval-low, zeros-low}
+use Rattle.poly.specs.Poly.{Distinct, eval, quot, length_quot}
+use Rattle.poly.proofs.Poly.{quot_sym, quot-root, quot-zeros, head-zero, eval-zeros}
+use Rattle.poly.specs.Coefficients.{coeff, Low, zeros-low}
+use Rattle.poly.proofs.Coefficients.{eval-low}
 
 -- at how many of the positions that both have two lists differ
 abbrev pub differences : List ℕ → List ℕ → ℕ

@@ -5,7 +5,8 @@ use Rattle.std.proofs.Math.Decide.{dec_lt, ℕ_discrete}
 use Rattle.lists.specs.All.{All}
 use Rattle.field.specs.Laws.{Ops, IsField, sums, ⊗_1}
 use Rattle.poly.specs.Poly.{scale_p, mul_p}
-use Rattle.poly.specs.Coefficients.{coeff, Low, times_power, low-mul_p, coeff-scale_p, coeff-times_power_at, coeff-times_power_below, mul_p_snoc, coeff_sym}
+use Rattle.poly.specs.Coefficients.{coeff, Low, times_power, coeff-times_power_at, coeff-times_power_below}
+use Rattle.poly.proofs.Coefficients.{low-mul_p, coeff-scale_p, mul_p_snoc, coeff_sym}
 
 -- the front of s is the product of u and the first j coefficients of p, and the others stand behind it
 pub record Dividing (K : Ops) (e d : ℕ) (p u : List ℕ) (j : ℕ) (s : List ℕ) : Type 0 where

@@ -4,11 +4,15 @@ use Rattle.std.proofs.Common.{sym, ap, ◌∙◌, subst, arith}
 use Rattle.lists.specs.All.{All}
 use Rattle.lists.specs.Tables.{length_tab, get_or_tab}
 use Rattle.field.specs.Laws.{Ops, IsField}
-use Rattle.poly.specs.Poly.{eval, add_p, length_add_p, eval-add_p, add_p_sym, zeros_equal, sum_step}
-use Rattle.poly.specs.Span.{elem, elem_sym}
+use Rattle.poly.specs.Poly.{eval, add_p, length_add_p}
+use Rattle.poly.proofs.Poly.{eval-add_p, add_p_sym, zeros_equal, sum_step}
+use Rattle.poly.specs.Span.{elem}
+use Rattle.poly.proofs.Span.{elem_sym}
 use Rattle.poly.specs.Blocks.{eighths}
-use Rattle.poly.specs.Codeword.{Basis, word_of, Codeword, basis_distinct}
-use Rattle.poly.specs.Shift.{CodewordAt, codeword_shift}
+use Rattle.poly.specs.Codeword.{Basis, word_of, Codeword}
+use Rattle.poly.proofs.Codeword.{basis_distinct}
+use Rattle.poly.specs.Shift.{CodewordAt}
+use Rattle.poly.proofs.Shift.{codeword_shift}
 use Rattle.poly.specs.Coefficients.{coeff}
 use Rattle.correction.specs.Differences.{differences, differing, differing-le, differing_triangle, differing_sym, differences-differing, root-count}
 

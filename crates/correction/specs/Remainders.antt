@@ -4,8 +4,10 @@ use Rattle.std.specs.Prelude.{◌≡◌, ◌≢◌, List, [], ◌∷◌, ℕ, ze
 use Rattle.std.proofs.Common.{sym, ap, ◌∙◌, arith}
 use Rattle.lists.specs.All.{All}
 use Rattle.field.specs.Laws.{Ops, IsField, ring, ⊗_0, ⊗_1, ⊗-zero}
-use Rattle.poly.specs.Poly.{Distinct, eval, add_p, mul_p, eval-add_p, eval-mul_p, add_p_sym, mul_p_sym}
-use Rattle.poly.specs.Coefficients.{coeff, Low, times_power, Mixed, low-le, low-less, low-times_power, low-add_p, low-mul_p, low_mixed, mixed_left, mixed_right, eval_mixed, eval-times_power, coeff-times_power_at, coeff_equal, coeff_sym}
+use Rattle.poly.specs.Poly.{Distinct, eval, add_p, mul_p}
+use Rattle.poly.proofs.Poly.{eval-add_p, eval-mul_p, add_p_sym, mul_p_sym}
+use Rattle.poly.specs.Coefficients.{coeff, Low, times_power, Mixed, low-le, low-less, low-times_power, coeff-times_power_at}
+use Rattle.poly.proofs.Coefficients.{low-add_p, low-mul_p, low_mixed, mixed_left, mixed_right, eval_mixed, eval-times_power, coeff_equal, coeff_sym}
 use Rattle.correction.specs.Differences.{differing, differing-le, root-low}
 
 module _ (K : Ops) (n : ℕ) (x w : ℕ → ℕ) where
@@ -53,7 +55,7 @@ module _ {K : Ops} (F : IsField K) (n : ℕ) (x w : ℕ → ℕ) where
       }
     where
       no_value : (y : ℕ) → eval K none y ≡ 0
-      no_value y = Rattle.poly.specs.Coefficients.eval-coeff F none [] y (λ i. l0 i (omega arith))
+      no_value y = Rattle.poly.proofs.Coefficients.eval-coeff F none [] y (λ i. l0 i (omega arith))
 
       same : (i : ℕ) → coeff one i ≡ coeff (1 ∷ []) i
       same zero = e1
@@ -63,7 +65,7 @@ module _ {K : Ops} (F : IsField K) (n : ℕ) (x w : ℕ → ℕ) where
       constant y = simp (ring, F)
 
       one_value : (y : ℕ) → eval K one y ≡ 1
-      one_value y = Rattle.poly.specs.Coefficients.eval-coeff F one (1 ∷ []) y same ∙ constant y
+      one_value y = Rattle.poly.proofs.Coefficients.eval-coeff F one (1 ∷ []) y same ∙ constant y
 
   hits_step : (y c p q u v a b : ℕ) → p ≡ y ⊗ a → q ≡ y ⊗ b → u ≡ p ⊕ c ⊗ q → v ≡ a ⊕ c ⊗ b → u ≡ y ⊗ v
   hits_step y c p q u v a b ep eq eu ev = simp (ep, eq, eu, ev, ring, F)

@@ -3,6 +3,7 @@
 // each call, with its output and the number of zeros in the scratch, held to the file stdout. Outputs
 // come in as nines, the scratch as sevens.
 #![tactic(auto)]
+
 mod large;
 
 use case_lines::{cleared, figure, numbers};

@@ -7,7 +7,7 @@ use Rattle.stored.specs.File.{file_of, file_end, form_in, modulus_in, degree_in,
 use Rattle.stored.specs.Passed.{length_basis}
 use Rattle.stored.specs.Reader.{file_checks}
 use Rattle.stored.specs.Whole.{Delivery, Gives}
-use Rattle.stored.specs.Written.{length_file, file_accepted, file_gives}
+use Rattle.stored.proofs.Written.{length_file, file_accepted, file_gives}
 use Rattle.prover.specs.Calls.{ProofAt}
 use Rattle.prover.specs.Determined.{one-proof-at}
 use Rattle.delivery.specs.Steps.{delivery}

@@ -8,10 +8,11 @@ use Rattle.space.specs.Fits.{sound_fits}
 use Rattle.space.specs.Setting.{SettledBy}
 use Rattle.space.specs.declared.Checked.{Checked}
 use Rattle.space.specs.declared.Setting.{Setting}
-use Rattle.stored.specs.Accepted.{setting_numbered, setting-passed, setting_ready, setting_dimension}
+use Rattle.stored.proofs.Accepted.{setting_numbered, setting-passed, setting_ready, setting_dimension}
 use Rattle.stored.specs.File.{Carries, layout_of, file_limit, form_in, modulus_in, degree_in, dim_in, basis_in, shift_at, shift_in, end_in}
 use Rattle.stored.specs.Packed.{length_numbers}
-use Rattle.stored.specs.Passed.{length_basis, record_numbered, record_passed}
+use Rattle.stored.specs.Passed.{length_basis}
+use Rattle.stored.proofs.Passed.{record_numbered, record_passed}
 use Rattle.stored.specs.Reader.{setting_checks, record_checks, SettingRead}
 use Rattle.stored.specs.Short.{short-file}
 use Rattle.stored.specs.declared.Form.{Form}

@@ -1,6 +1,7 @@
 // A delivery from end to end: a message file of a setting and coefficients becomes the stored file of
 // their word and its proof, in the form of the message.
 #![tactic(auto)]
+
 mod checks;
 mod parts;
 

@@ -2,12 +2,13 @@
 // and the total. It holds a window on the input: no file that is accepted has more bytes. A write
 // that failed is told on standard error.
 #![tactic(auto)]
+
 ghost use Rattle.std.specs.Prelude.{◌≡◌, length};
 ghost use Rattle.stored.specs.File.{file_limit};
 
-use streams::{STDERR_FILENO, STDIN_FILENO, STDOUT_FILENO};
 use report::{Entry, Total};
 use stored::FILE_LIMIT;
+use streams::{STDERR_FILENO, STDIN_FILENO, STDOUT_FILENO};
 
 fn window() -> [u8; FILE_LIMIT]
     ensures { length result ≡ file_limit }

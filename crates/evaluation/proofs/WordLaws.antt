@@ -12,8 +12,10 @@ use Rattle.field.specs.Binary.{degree}
 use Rattle.field.specs.Laws.{Ops, IsField}
 use Rattle.field.specs.Symbols.{symbols}
 use Rattle.poly.specs.Poly.{eval}
-use Rattle.poly.specs.Span.{elem, elem_sym}
-use Rattle.poly.specs.Degree.{monomials, eval-monomials}
+use Rattle.poly.specs.Span.{elem}
+use Rattle.poly.proofs.Span.{elem_sym}
+use Rattle.poly.specs.Degree.{monomials}
+use Rattle.poly.proofs.Degree.{eval-monomials}
 use Rattle.poly.specs.Codeword.{Basis, word_of}
 use Rattle.poly.specs.Blocks.{eighths}
 use Rattle.space.specs.Ready.{Ready}

@@ -1,6 +1,7 @@
 // The public calls for programs in other languages, used by the tests and the benchmark. An answer
 // is one number: a definition in specs/Codes.antt says which.
 #![tactic(auto)]
+
 mod files;
 mod places;
 

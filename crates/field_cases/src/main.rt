@@ -1,6 +1,7 @@
 // The field calls on the worked examples of FIPS 197, section 4, on the cases P1 to P3, and at the
 // borders of the checks: a line for each, held to the file stdout.
 #![tactic(auto)]
+
 use field::Value;
 use streams::STDOUT_FILENO;
 

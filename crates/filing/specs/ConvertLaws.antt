@@ -6,13 +6,14 @@ use Rattle.lists.specs.Answers.{Checks, Answers, Passes, Refuses, Numbered, answ
 use Rattle.lists.specs.Decides.{equal_stable}
 use Rattle.field.specs.Binary.{degree}
 use Rattle.space.specs.Fits.{sound_fits}
-use Rattle.stored.specs.Accepted.{file_numbered, accepted}
+use Rattle.stored.proofs.Accepted.{file_numbered, accepted}
 use Rattle.stored.specs.File.{Carries, file_of, file_end, file_limit, form_in, modulus_in, degree_in, dim_in, basis_in, shift_in, word_in, proof_in}
 use Rattle.stored.specs.Passed.{length_basis}
 use Rattle.stored.specs.Reader.{file_checks}
 use Rattle.stored.specs.Short.{small-file, short-file}
-use Rattle.stored.specs.Whole.{Delivery, Gives, accepted_delivery, accepted_file}
-use Rattle.stored.specs.Written.{length_file, file_accepted, file_gives}
+use Rattle.stored.specs.Whole.{Delivery, Gives}
+use Rattle.stored.proofs.Whole.{accepted_delivery, accepted_file}
+use Rattle.stored.proofs.Written.{length_file, file_accepted, file_gives}
 use Rattle.stored.specs.declared.Form.{Form}
 use Rattle.stored.specs.declared.Form.TheVariants.{One, Two}
 use Rattle.filing.specs.Convert.{other, converted, converted_end, shift_checks, convert_checks, length_of, LengthTold}

@@ -6,7 +6,7 @@ use Rattle.field.specs.Binary.{degree}
 use Rattle.proximity.specs.Dim.{S}
 use Rattle.stored.specs.Bytes.{packed_size}
 use Rattle.stored.specs.File.{word_mark, proof_mark, narrow_of, setting_record, symbol_record, word_record, proof_record, file_of, word_record_at, proof_record_at, file_end}
-use Rattle.stored.specs.Written.{length_symbol_record, length_setting_record}
+use Rattle.stored.proofs.Written.{length_symbol_record, length_setting_record}
 use Rattle.stored.specs.declared.Form.{Form}
 use Rattle.filing.specs.Put.{Put, put_then, put_same, put_whole}
 

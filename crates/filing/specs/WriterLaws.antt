@@ -11,7 +11,7 @@ use Rattle.proximity.specs.Dim.{S}
 use Rattle.stored.specs.File.{Carries, file_of, file_end}
 use Rattle.stored.specs.Reader.{file_checks}
 use Rattle.stored.specs.Whole.{Delivery, Gives}
-use Rattle.stored.specs.Written.{file_accepted, file_gives}
+use Rattle.stored.proofs.Written.{file_accepted, file_gives}
 use Rattle.stored.specs.declared.Form.{Form}
 use Rattle.filing.specs.Writer.{length_checks, range_checks, writer_checks}
 

@@ -13,7 +13,7 @@ use Rattle.verifier.specs.declared.Verdict.{Verdict}
 use Rattle.verifier.specs.declared.Verdict.TheVariants.{Accept, Reject}
 use Rattle.stored.specs.Check.{AnsweredFile}
 use Rattle.stored.specs.File.{dim_in}
-use Rattle.stored.specs.OnSymbols.{file_bounds}
+use Rattle.stored.proofs.OnSymbols.{file_bounds}
 use Rattle.stored.specs.Reader.{read_of, Told}
 use Rattle.stored.specs.declared.Reading.{Reading}
 use Rattle.host.specs.Answer.{code_of, reads_after, told_after, HostAnswer, HostDegree}

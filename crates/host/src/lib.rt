@@ -2,6 +2,7 @@
 // answer is a number: definitions in specs/Answer.antt say which. include/proximity.h declares the
 // calls.
 #![tactic(auto)]
+
 mod degree;
 
 ghost use Rattle.lists.specs.Answers.{Answers};

@@ -3,12 +3,13 @@
 // message has 4096 bytes, so an input that goes past the buffer gets the number that all of it would
 // get.
 #![tactic(auto)]
+
 ghost use Rattle.std.specs.Prelude.{◌≡◌, length};
 ghost use Rattle.stored.specs.File.{file_limit};
 
 use delivery::Made;
-use streams::{STDERR_FILENO, STDIN_FILENO, STDOUT_FILENO};
 use stored::FILE_LIMIT;
+use streams::{STDERR_FILENO, STDIN_FILENO, STDOUT_FILENO};
 
 fn room() -> [u8; FILE_LIMIT]
     ensures { file_limit ≡ length result }

@@ -12,7 +12,8 @@ use Rattle.lists.specs.Overwrite.{length_zip_with}
 use Rattle.field.specs.Laws.{Ops, IsField, ring, ⊗_0, ⊗_1}
 use Rattle.field.specs.Symbols.{symbols}
 use Rattle.poly.specs.Poly.{scale_p, length_scale_p, take_scale_p, drop_scale_p}
-use Rattle.poly.specs.Novel.{W, step, image, eval_x, W-next, W_sym, step_sym}
+use Rattle.poly.specs.Novel.{W, step, image, eval_x}
+use Rattle.poly.proofs.Novel.{W-next, W_sym, step_sym}
 use Rattle.poly.specs.Span.{Independent}
 use Rattle.novel.specs.Sparse.{squared, linear, coefficient, Sparse, linear-W}
 use Rattle.novel.specs.Convert.{eval_by, row_of, value_by}

@@ -13,7 +13,8 @@ use Rattle.field.specs.Laws.{Ops, IsField, ring, ⊗_0}
 use Rattle.field.specs.Products.{add_products, accumulated}
 use Rattle.field.specs.Symbols.{symbols, symbols-field}
 use Rattle.field.proofs.Accumulate.{length_new}
-use Rattle.poly.specs.Poly.{eval, add_p, scale_p, eval-add_p, eval-scale_p}
+use Rattle.poly.specs.Poly.{eval, add_p, scale_p}
+use Rattle.poly.proofs.Poly.{eval-add_p, eval-scale_p}
 use Rattle.novel.specs.Sparse.{squared}
 use Rattle.novel.specs.Convert.{raised}
 

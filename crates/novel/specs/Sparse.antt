@@ -8,8 +8,9 @@ use Rattle.lists.specs.All.{Below}
 use Rattle.field.specs.Binary.{degree}
 use Rattle.field.specs.Laws.{Ops, IsField, ring}
 use Rattle.field.specs.Symbols.{symbols}
-use Rattle.poly.specs.Span.{vanish-nil}
-use Rattle.poly.specs.Novel.{W, step, W_suc}
+use Rattle.poly.proofs.Span.{vanish-nil}
+use Rattle.poly.specs.Novel.{W, step}
+use Rattle.poly.proofs.Novel.{W_suc}
 
 module _ (K : Ops) where
   infixl 60 ◌⊕◌

@@ -1,13 +1,14 @@
 // The bench cases of the checker, and the prover's pairs at k = 7 to 9 counted over all coins: a
 // line for each, held to the file stdout. Lent outputs and scratch come in as sevens.
 #![tactic(auto)]
+
 mod lines;
 mod short;
 
 ghost use Rattle.std.specs.Prelude.{◌≤◌};
 
-use streams::STDOUT_FILENO;
 use lines::{line, outcome, verdict};
+use streams::STDOUT_FILENO;
 use verifier::Verdict;
 
 fn one_unless_accepted(v: Verdict) -> u64

@@ -14,7 +14,7 @@ use Rattle.field.specs.Binary.{degree}
 use Rattle.field.specs.Laws.{IsField}
 use Rattle.field.specs.Symbols.{symbols, symbols-field}
 use Rattle.poly.specs.Codeword.{Codeword}
-use Rattle.poly.specs.Shift.{codeword_shift}
+use Rattle.poly.proofs.Shift.{codeword_shift}
 use Rattle.space.specs.Ready.{Ready}
 use Rattle.space.specs.Setting.{setting_checks}
 use Rattle.space.specs.Sound.{Sound, sound_field}

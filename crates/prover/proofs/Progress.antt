@@ -15,8 +15,10 @@ use Rattle.field.specs.Binary.{degree, Irreducible}
 use Rattle.field.specs.Laws.{Ops, IsField}
 use Rattle.field.specs.Symbols.{symbols, symbols-field}
 use Rattle.field.specs.declared.Field.{Field}
-use Rattle.poly.specs.Poly.{eval, eval_sym}
-use Rattle.poly.specs.Span.{elem, elem_sym}
+use Rattle.poly.specs.Poly.{eval}
+use Rattle.poly.proofs.Poly.{eval_sym}
+use Rattle.poly.specs.Span.{elem}
+use Rattle.poly.proofs.Span.{elem_sym}
 use Rattle.poly.specs.Codeword.{Basis, Codeword}
 use Rattle.space.specs.Images.{Images}
 use Rattle.space.specs.Sizes.{max_dim, max_line}

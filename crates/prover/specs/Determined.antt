@@ -3,11 +3,11 @@ use Rattle.std.specs.Prelude.{◌≡◌, ◌↔◌, List, ℕ, length}
 use Rattle.std.proofs.Common.{sym, ap, ◌∙◌}
 use Rattle.field.specs.Laws.{IsField}
 use Rattle.field.specs.Symbols.{symbols}
-use Rattle.poly.specs.Codeword.{decode_unique}
+use Rattle.poly.proofs.Codeword.{decode_unique}
 use Rattle.space.specs.Sound.{Sound, sound_field}
 use Rattle.proximity.specs.Dim.{dim}
 use Rattle.proximity.specs.Proof.{proof_of}
-use Rattle.proximity.specs.Shifted.{honest_shift}
+use Rattle.proximity.proofs.Shifted.{honest_shift}
 use Rattle.prover.specs.Calls.{ProofOf, ProofAt}
 
 module _ {m : ℕ} {bs : List ℕ} {σ : ℕ} (s : Sound m bs σ) (word : List ℕ) where

@@ -7,8 +7,10 @@ use Rattle.std.proofs.lemmas.List.{length-replicate}
 use Rattle.std.proofs.Math.ListN.{get_or-eq_default}
 use Rattle.lists.specs.All.{All, IsZero, All-replicate}
 use Rattle.field.specs.Laws.{Ops, IsField, ring, 0_⊕, 0_⊗, ⊗_0}
-use Rattle.poly.specs.Poly.{eval, scale_p, add_p_sym, scale_p_sym, eval-zeros, length_add_p, length_scale_p}
-use Rattle.poly.specs.Coefficients.{Low, coeff-add_p, coeff-scale_p}
+use Rattle.poly.specs.Poly.{eval, scale_p, length_add_p, length_scale_p}
+use Rattle.poly.proofs.Poly.{add_p_sym, scale_p_sym, eval-zeros}
+use Rattle.poly.specs.Coefficients.{Low}
+use Rattle.poly.proofs.Coefficients.{coeff-add_p, coeff-scale_p}
 use Rattle.proximity.specs.Bivariate.{front, final, reduce_by_q, times_x, digits, eval2}
 use Rattle.proximity.specs.TwoVariables.{Digits, eval_monic}
 

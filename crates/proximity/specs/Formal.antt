@@ -6,9 +6,12 @@ use Rattle.std.proofs.Math.ListN.{get_or-eq_default}
 use Rattle.lists.specs.All.{All, IsZero, All-at}
 use Rattle.lists.specs.Tables.{tab_ext}
 use Rattle.field.specs.Laws.{Ops, IsField, combine, ring, sums, ⊕-zero, 0_⊕, ⊕_0, ⊗_1}
-use Rattle.poly.specs.Poly.{add_p, mul_p, add_p_sym}
-use Rattle.poly.specs.Coefficients.{coeff-add_p, coeff-mul_p, low_zeros, mul_p-zeros}
-use Rattle.poly.specs.Codeword.{Basis, decode_unique}
+use Rattle.poly.specs.Poly.{add_p, mul_p}
+use Rattle.poly.proofs.Poly.{add_p_sym}
+use Rattle.poly.specs.Coefficients.{low_zeros}
+use Rattle.poly.proofs.Coefficients.{coeff-add_p, coeff-mul_p, mul_p-zeros}
+use Rattle.poly.specs.Codeword.{Basis}
+use Rattle.poly.proofs.Codeword.{decode_unique}
 use Rattle.poly.specs.Span.{elem}
 use Rattle.proximity.specs.Dim.{half}
 use Rattle.proximity.specs.Bivariate.{q_coeffs, bivariate}

@@ -4,10 +4,13 @@ use Rattle.std.proofs.Common.{sym, ap, ◌∙◌, arith, pow_mono}
 use Rattle.lists.specs.All.{All, All-at}
 use Rattle.lists.specs.Tables.{tab, length_tab, tab_ext, tab_of}
 use Rattle.field.specs.Laws.{Ops, IsField}
-use Rattle.poly.specs.Poly.{Distinct, eval, eval_unique}
+use Rattle.poly.specs.Poly.{Distinct, eval}
+use Rattle.poly.proofs.Unique.{eval_unique}
 use Rattle.poly.specs.Span.{elem}
-use Rattle.poly.specs.Interpolate.{Through, interpolate}
-use Rattle.poly.specs.Codeword.{Basis, basis_distinct}
+use Rattle.poly.specs.Interpolate.{Through}
+use Rattle.poly.proofs.Interpolate.{interpolate}
+use Rattle.poly.specs.Codeword.{Basis}
+use Rattle.poly.proofs.Codeword.{basis_distinct}
 use Rattle.proximity.specs.Dim.{half, col_dim}
 use Rattle.proximity.specs.Bivariate.{at_x, at_y, wide}
 use Rattle.proximity.specs.Proof.{height_of}

@@ -14,9 +14,13 @@ use Rattle.lists.specs.Tables.{tab, length_tab, get_or_tab, All-tab}
 use Rattle.field.specs.Binary.{◌⊕◌, Irreducible}
 use Rattle.field.specs.Laws.{Ops, IsField}
 use Rattle.field.specs.Symbols.{symbols, symbols-field}
-use Rattle.poly.specs.Span.{bit_of, elem, elem_sym}
-use Rattle.poly.specs.Novel.{image, elem-image}
-use Rattle.poly.specs.Tower.{length_images, image-table, image_take, image_append}
+use Rattle.poly.specs.Span.{bit_of, elem}
+use Rattle.poly.proofs.Span.{elem_sym}
+use Rattle.poly.specs.Novel.{image}
+use Rattle.poly.proofs.Novel.{elem-image}
+use Rattle.poly.specs.Tower.{image_take, image_append}
+use Rattle.poly.proofs.Tower.{length_images}
+use Rattle.poly.proofs.ImageTable.{image-table}
 use Rattle.poly.specs.Codeword.{Basis}
 use Rattle.space.specs.Images.{Images, upper_images, length_upper_images, upper_image, upper_each}
 use Rattle.space.specs.Sizes.{max_dim, cells}

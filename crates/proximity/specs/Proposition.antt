@@ -6,9 +6,12 @@ use Prim.Native.Nat.{ℕ, suc, ◌+◌, ◌*◌, ◌^◌, ◌-◌, ◌≤◌, �
 use Rattle.std.proofs.Math.Pow.{pow_pos}
 use Rattle.lists.specs.All.{All, All-take}
 use Rattle.field.specs.Laws.{Ops, IsField}
-use Rattle.poly.specs.Poly.{Distinct, eval, eval_unique}
-use Rattle.poly.specs.Span.{elem, elem_sym, vanish, product_to}
-use Rattle.poly.specs.Codeword.{Basis, basis_distinct}
+use Rattle.poly.specs.Poly.{Distinct, eval}
+use Rattle.poly.proofs.Unique.{eval_unique}
+use Rattle.poly.specs.Span.{elem, vanish, product_to}
+use Rattle.poly.proofs.Span.{elem_sym}
+use Rattle.poly.specs.Codeword.{Basis}
+use Rattle.poly.proofs.Codeword.{basis_distinct}
 use Rattle.proximity.specs.Dim.{half, col_dim}
 use Rattle.proximity.specs.Spaces.{q, col_basis}
 use Rattle.proximity.specs.Bivariate.{at_x, at_y, eval2, wide, monic, q_coeffs, bivariate}

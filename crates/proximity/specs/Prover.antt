@@ -6,7 +6,8 @@ use Rattle.lists.specs.Tables.{length_tab}
 use Rattle.field.specs.Laws.{Ops, IsField}
 use Rattle.poly.specs.Poly.{eval}
 use Rattle.poly.specs.Span.{elem}
-use Rattle.poly.specs.Codeword.{Basis, word_of, Codeword, decode_unique}
+use Rattle.poly.specs.Codeword.{Basis, word_of, Codeword}
+use Rattle.poly.proofs.Codeword.{decode_unique}
 use Rattle.proximity.specs.Dim.{half, row_dim, col_dim, Dim, leaf, node, size}
 use Rattle.proximity.specs.Spaces.{row_basis, col_basis}
 use Rattle.proximity.specs.Bivariate.{bivariate}

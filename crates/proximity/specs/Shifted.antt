@@ -1,12 +1,10 @@
 -- Word and proof in a setting with a shift: the word holds P at the shifted elements, and the proof is the one for P(x + shift) over the span. Assumes nothing.
-use Rattle.std.specs.Prelude.{◌≡◌, ◌↔◌, List, ℕ, ◌^◌, ◌-◌, length}
-use Rattle.std.proofs.Common.{sym, ap, ◌∙◌}
+use Rattle.std.specs.Prelude.{◌≡◌, List, ℕ, ◌^◌, ◌-◌, length}
 use Rattle.lists.specs.All.{All}
-use Rattle.field.specs.Laws.{Ops, IsField}
-use Rattle.poly.specs.Codeword.{Basis}
-use Rattle.poly.specs.Shift.{word_at, shift_p, length_shift_p, shift_p_sym, word_shift, word_unshift, shift_twice}
+use Rattle.field.specs.Laws.{Ops}
+use Rattle.poly.specs.Shift.{word_at, shift_p}
 use Rattle.proximity.specs.Dim.{Dim}
-use Rattle.proximity.specs.Proof.{proof_of, Honest}
+use Rattle.proximity.specs.Proof.{proof_of}
 
 -- the word evaluates P, of degree below n/8, at the shifted elements, and the proof is that of P(x + σ)
 pub record HonestAt (K : Ops) (σ : ℕ) {k : ℕ} (d : Dim k) (b w π P : List ℕ) : Type 0 where
@@ -14,21 +12,3 @@ pub record HonestAt (K : Ops) (σ : ℕ) {k : ℕ} (d : Dim k) (b w π P : List 
   pub elements : All K.Sym P
   pub word : w ≡ word_at K σ k b P
   pub proof : π ≡ proof_of K d b (shift_p K σ P)
-
-module _ {K : Ops} (F : IsField K) (σ : ℕ) (sσ : K.Sym σ) {k : ℕ} (d : Dim k) (b : List ℕ) (B : Basis K k b) (w π : List ℕ) where
-  to_unshifted : (P : List ℕ) → HonestAt K σ d b w π P → Honest K d b w π (shift_p K σ P)
-  to_unshifted P H =
-      record { count = length_shift_p K σ P ∙ H.count; elements = shift_p_sym F σ P sσ H.elements; word = H.word ∙ word_shift F σ k b P; proof = H.proof }
-
-  to-shifted : (P : List ℕ) → Honest K d b w π P → HonestAt K σ d b w π (shift_p K σ P)
-  to-shifted P H =
-      record {
-        count = length_shift_p K σ P ∙ H.count;
-        elements = shift_p_sym F σ P sσ H.elements;
-        word = H.word ∙ word_unshift F σ k b P;
-        proof = H.proof ∙ ap (proof_of K d b) (sym (shift_twice F σ sσ k b B P H.count H.elements));
-      }
-
-  -- a pair is one of a polynomial at each shift or at none
-  pub honest_shift : ((P : List ℕ) × HonestAt K σ d b w π P) ↔ ((P : List ℕ) × Honest K d b w π P)
-  honest_shift = ((λ (P, H). (shift_p K σ P, to_unshifted P H)), λ (P, H). (shift_p K σ P, to-shifted P H))

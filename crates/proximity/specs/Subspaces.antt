@@ -7,8 +7,10 @@ use Rattle.std.proofs.Math.Pow.{pow-lt}
 use Rattle.lists.specs.All.{All-take, All-drop, All-append, All-map}
 use Rattle.lists.specs.Pick.{pick_true, pick_false}
 use Rattle.field.specs.Laws.{Ops, IsField, 0_⊕, ⊕_0, ⊕-zero}
-use Rattle.poly.specs.Span.{elem, Independent, elem_sym, elem-zero, elem_append, vanish_sym, vanish_coset, elem-vanish, vanish_independent}
-use Rattle.poly.specs.Codeword.{Basis, basis_distinct}
+use Rattle.poly.specs.Span.{elem, Independent}
+use Rattle.poly.proofs.Span.{elem_sym, elem-zero, elem_append, vanish_sym, vanish_coset, elem-vanish, vanish_independent}
+use Rattle.poly.specs.Codeword.{Basis}
+use Rattle.poly.proofs.Codeword.{basis_distinct}
 use Rattle.proximity.specs.Dim.{half, row_dim, col_dim}
 use Rattle.proximity.specs.Spaces.{q, β, row_last, row_basis, col_basis}
 use Rattle.proximity.specs.Proof.{slot, height_of}

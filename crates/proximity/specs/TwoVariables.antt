@@ -6,7 +6,9 @@ use Rattle.std.proofs.lemmas.List.{length-replicate}
 use Rattle.lists.specs.All.{All, IsZero, All-append, All-replicate}
 use Rattle.lists.specs.Tables.{tab}
 use Rattle.field.specs.Laws.{Ops, IsField, ring}
-use Rattle.poly.specs.Poly.{Distinct, eval, add_p, scale_p, mul_p, eval-add_p, eval-scale_p, eval-mul_p, eval_sym, add_p_sym, scale_p_sym, mul_p_sym, eval-zeros, eval_unique, length_add_p, length_scale_p, length_mul_p}
+use Rattle.poly.specs.Poly.{Distinct, eval, add_p, scale_p, mul_p, length_add_p, length_scale_p, length_mul_p}
+use Rattle.poly.proofs.Poly.{eval-add_p, eval-scale_p, eval-mul_p, eval_sym, add_p_sym, scale_p_sym, mul_p_sym, eval-zeros}
+use Rattle.poly.proofs.Unique.{eval_unique}
 use Rattle.poly.specs.Span.{product_to}
 use Rattle.proximity.specs.Bivariate.{at_x, at_y, eval2, monic}
 

@@ -6,10 +6,14 @@ use Rattle.std.proofs.lemmas.List.{length-map}
 use Rattle.lists.specs.All.{All}
 use Rattle.lists.specs.Tables.{All-tab}
 use Rattle.field.specs.Laws.{Ops, IsField}
-use Rattle.poly.specs.Poly.{eval, eval_sym}
-use Rattle.poly.specs.Span.{elem, elem_sym}
-use Rattle.poly.specs.Codeword.{Basis, word_of, Codeword, first, codeword_iff}
-use Rattle.poly.specs.LeastDegree.{LeastDegree, least_exists, least_range}
+use Rattle.poly.specs.Poly.{eval}
+use Rattle.poly.proofs.Poly.{eval_sym}
+use Rattle.poly.specs.Span.{elem}
+use Rattle.poly.proofs.Span.{elem_sym}
+use Rattle.poly.specs.Codeword.{Basis, word_of, Codeword}
+use Rattle.poly.proofs.Codeword.{first, codeword_iff}
+use Rattle.poly.specs.LeastDegree.{LeastDegree}
+use Rattle.poly.proofs.LeastDegree.{least_exists, least_range}
 use Rattle.proximity.specs.Dim.{Dim, leaf, node, size}
 use Rattle.proximity.specs.Spaces.{row_basis, col_basis}
 use Rattle.proximity.specs.Verifier.{by_line, Accepts, positions, read_at, leaf_dim, leaf_basis}

@@ -6,7 +6,8 @@ use Rattle.std.proofs.Math.Logic.{inr}
 use Rattle.lists.specs.Alike.{Alike, alike_answers, alike_back, alike_path, alike_append}
 use Rattle.lists.specs.Answers.{Checks, Answers, Passes, Numbered, answers-after, refused_first, passes-each}
 use Rattle.field.specs.Checks.{not-less}
-use Rattle.stored.specs.Accepted.{Prefix, setting_numbered, prefix_numbered, prefix-passed}
+use Rattle.stored.specs.Accepted.{Prefix}
+use Rattle.stored.proofs.Accepted.{setting_numbered, prefix_numbered, prefix-passed}
 use Rattle.stored.specs.File.{word_record_at, file_limit, form_in, degree_in, dim_in, end_in}
 use Rattle.stored.specs.Passed.{basis-first, record_size}
 use Rattle.stored.specs.Reader.{setting_checks, symbol_checks, prefix_checks, file_checks, read_of}

@@ -4,7 +4,8 @@ use Rattle.std.proofs.Common.{sym, ap, ◌∙◌, subst, inl, inr, append_assoc,
 use Rattle.std.proofs.lemmas.List.{drop-append-le}
 use Rattle.lists.specs.Alike.{Alike, alike_answers}
 use Rattle.lists.specs.Answers.{Passes, passes-each}
-use Rattle.stored.specs.Accepted.{Accepted, accepted, setting_numbered, prefix-passes}
+use Rattle.stored.specs.Accepted.{Accepted}
+use Rattle.stored.proofs.Accepted.{accepted, setting_numbered, prefix-passes}
 use Rattle.stored.specs.File.{word_record_at, form_in, degree_in, dim_in, end_in}
 use Rattle.stored.specs.Reader.{setting_checks, symbol_checks, file_checks}
 use Rattle.coins.specs.Answer.{counted-file, counted_length}

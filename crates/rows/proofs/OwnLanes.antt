@@ -13,8 +13,10 @@ use Rattle.field.specs.Binary.{◌⊕◌, degree, Irreducible}
 use Rattle.field.specs.Symbols.{symbols, symbols-field}
 use Rattle.field.specs.Xor.{xor_zero_right}
 use Rattle.field.specs.declared.Field.{Field}
-use Rattle.poly.specs.Span.{elem, elem_sym}
-use Rattle.poly.specs.Transform.{inverse, inverse_ext}
+use Rattle.poly.specs.Span.{elem}
+use Rattle.poly.proofs.Span.{elem_sym}
+use Rattle.poly.specs.Transform.{inverse}
+use Rattle.poly.proofs.Transform.{inverse_ext}
 use Rattle.space.specs.Sizes.{max_dim, lane_cells, max_column}
 use Rattle.transform.specs.Lanes.{image_at, lane_shift, InLanes, Interpolated}
 use Rattle.transform.specs.Slices.{Transposed}

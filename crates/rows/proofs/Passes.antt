@@ -15,7 +15,8 @@ use Rattle.lists.specs.Tables.{part}
 use Rattle.field.specs.Binary.{◌⊕◌, degree}
 use Rattle.field.specs.Symbols.{symbols}
 use Rattle.field.specs.declared.Field.{Field}
-use Rattle.poly.specs.Transform.{transform, transform_ext}
+use Rattle.poly.specs.Transform.{transform}
+use Rattle.poly.proofs.Transform.{transform_ext}
 use Rattle.space.specs.Sizes.{max_dim, lane_cells}
 use Rattle.transform.specs.Lanes.{image_at, lane_shift, InLanes, Evaluated}
 use Rattle.transform.specs.Spans.{Zeros}

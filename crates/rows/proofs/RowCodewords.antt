@@ -13,13 +13,18 @@ use Rattle.field.specs.Binary.{Irreducible}
 use Rattle.field.specs.Laws.{Ops, IsField}
 use Rattle.field.specs.Symbols.{symbols, symbols-field}
 use Rattle.poly.specs.Poly.{eval}
-use Rattle.poly.specs.Span.{elem, elem_sym}
-use Rattle.poly.specs.Novel.{W-next}
-use Rattle.poly.specs.Transform.{transform, length_transform, length_inverse, transform-inverse, transform_ext}
-use Rattle.poly.specs.Values.{table, images_of, coeffs_sym}
-use Rattle.poly.specs.Degree.{monomials, length_monomials, monomials_sym}
+use Rattle.poly.specs.Span.{elem}
+use Rattle.poly.proofs.Span.{elem_sym}
+use Rattle.poly.proofs.Novel.{W-next}
+use Rattle.poly.specs.Transform.{transform}
+use Rattle.poly.proofs.Transform.{length_transform, length_inverse, transform-inverse, transform_ext}
+use Rattle.poly.specs.Values.{table, images_of}
+use Rattle.poly.proofs.Values.{coeffs_sym}
+use Rattle.poly.specs.Degree.{monomials, length_monomials}
+use Rattle.poly.proofs.Degree.{monomials_sym}
 use Rattle.poly.specs.Codeword.{Basis, word_of, Codeword}
-use Rattle.poly.specs.Blocks.{block_values, word_of_blocks}
+use Rattle.poly.specs.Blocks.{block_values}
+use Rattle.poly.proofs.Blocks.{word_of_blocks}
 use Rattle.space.specs.Images.{Images}
 use Rattle.space.specs.Sizes.{max_dim}
 use Rattle.transform.specs.Lanes.{image_at}

@@ -1,5 +1,6 @@
 // Checks 1 to 5 at their borders, and case P4: a line for each, held to the file stdout.
 #![tactic(auto)]
+
 use streams::STDOUT_FILENO;
 
 fn number(n: u64) {

@@ -15,8 +15,10 @@ use Rattle.lists.specs.Upto.{Upto, upto_none, upto_next, upto_all, upto_each}
 use Rattle.field.specs.Binary.{◌⊕◌, degree, product, inverse, Irreducible}
 use Rattle.field.specs.Laws.{Ops, IsField, 0_⊕}
 use Rattle.field.specs.Symbols.{symbols, symbols-field, inverse-zero}
-use Rattle.poly.specs.Span.{elem, elem-zero, vanish-nil, vanish-zero}
-use Rattle.poly.specs.Novel.{W, step, image, W_suc, step_sym, elem-high, image-elem, image-zero, image-next, independent_iff}
+use Rattle.poly.specs.Span.{elem}
+use Rattle.poly.proofs.Span.{elem-zero, vanish-nil, vanish-zero}
+use Rattle.poly.specs.Novel.{W, step, image}
+use Rattle.poly.proofs.Novel.{W_suc, step_sym, elem-high, image-elem, image-zero, image-next, independent_iff}
 use Rattle.space.specs.Values.{value_at, image_at}
 use Rattle.space.specs.Setting.{images_of, steps_of, inverses_of, no_tables, tables_of, Tabled}
 use Rattle.space.specs.declared.Tables.{Tables}

@@ -5,9 +5,10 @@ use Rattle.std.proofs.Math.Decide.{ℕ_discrete, dec_le}
 use Rattle.std.proofs.Math.Pow.{pow-lt}
 use Rattle.field.specs.Binary.{degree}
 use Rattle.field.specs.Symbols.{symbols}
-use Rattle.poly.specs.Codeword.{basis_distinct}
+use Rattle.poly.proofs.Codeword.{basis_distinct}
 use Rattle.poly.specs.Poly.{Distinct}
-use Rattle.poly.specs.Span.{elem, elem_sym}
+use Rattle.poly.specs.Span.{elem}
+use Rattle.poly.proofs.Span.{elem_sym}
 use Rattle.space.specs.Sound.{Sound, sound_field}
 
 -- x, or y where x is m

@@ -10,7 +10,8 @@ use Rattle.field.specs.Checks.{degree_range}
 use Rattle.field.specs.Laws.{IsField}
 use Rattle.field.specs.Products.{Sized}
 use Rattle.field.specs.Symbols.{symbols}
-use Rattle.poly.specs.Novel.{step, step_sym}
+use Rattle.poly.specs.Novel.{step}
+use Rattle.poly.proofs.Novel.{step_sym}
 use Rattle.space.specs.Images.{Images}
 use Rattle.space.specs.Setting.{setting_checks, setting_of, no_setting, steps_of, inverses_of, SettledBy, Settled}
 use Rattle.space.specs.Sound.{Sound, sound, sound_field}

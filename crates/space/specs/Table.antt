@@ -4,7 +4,8 @@ use Rattle.std.proofs.Common.{ap₂, ◌∙◌, arith}
 use Rattle.lists.specs.Tables.{length_tab, get_or_tab, All-tab}
 use Rattle.field.specs.Laws.{IsField}
 use Rattle.field.specs.Symbols.{symbols}
-use Rattle.poly.specs.Novel.{image, image_sym, get_or_sym}
+use Rattle.poly.specs.Novel.{image}
+use Rattle.poly.proofs.Novel.{image_sym, get_or_sym}
 use Rattle.space.specs.Images.{Images}
 use Rattle.space.specs.Setting.{images_of}
 use Rattle.space.specs.Sound.{Sound, sound_field}

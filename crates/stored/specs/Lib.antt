@@ -7,9 +7,6 @@ pub mod Accepted
 pub mod ByteLaws
 pub mod Packed
 pub mod Whole
-pub mod Written
 pub mod Check
 pub mod InRange
-pub mod CheckLaws
-pub mod OnSymbols
 pub mod Short

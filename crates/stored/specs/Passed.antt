@@ -1,8 +1,8 @@
--- What the checks of a stored file say where they pass, part by part. Assumes nothing.
+-- What the checks of a stored file say where they pass, up to the setting, and what a record of symbols is. Assumes nothing.
 use Rattle.std.specs.Prelude.{◌≡◌, refl, ◌⊎◌, Bool, false, List, ℕ, ◌+◌, ◌*◌, ◌^◌, ◌≤◌, ◌<◌, length, get_or}
 use Rattle.std.proofs.Common.{inl, inr, arith, eq-eqb, ne_eqb}
 use Rattle.std.proofs.Math.Decide.{dec_le}
-use Rattle.lists.specs.All.{Below, below_stable}
+use Rattle.lists.specs.All.{Below}
 use Rattle.lists.specs.Answers.{Answers, Passes, Numbered, answers-after, refused_first, passes-each}
 use Rattle.lists.specs.Decides.{equal_stable}
 use Rattle.lists.specs.Pick.{pick_true, pick_false}
@@ -16,11 +16,11 @@ use Rattle.space.specs.Sound.{outside}
 use Rattle.space.specs.declared.Checked.{Checked}
 use Rattle.stored.specs.Bytes.{packed_size, four_at, number_at, numbers_at}
 use Rattle.stored.specs.File.{setting_mark, word_record_at, form_in, modulus_in, dim_in, basis_in, shift_in, Opens}
-use Rattle.stored.specs.Reader.{late_checks, head_checks, basis_checks, setting_checks, record_checks}
+use Rattle.stored.specs.Reader.{late_checks, head_checks, basis_checks, setting_checks}
 use Rattle.stored.specs.declared.Form.{Form}
 use Rattle.stored.specs.declared.Form.TheVariants.{One, Two}
 
-opens_stable : (f : List ℕ) (p n a b : ℕ) → ((Opens f p n a b → ⊥) → ⊥) → Opens f p n a b
+pub opens_stable : (f : List ℕ) (p n a b : ℕ) → ((Opens f p n a b → ⊥) → ⊥) → Opens f p n a b
 opens_stable f p n a b g =
     record {
       present = by_le (dec_le (p + n) (length f)) (λ k. g (λ o. k o.present));
@@ -122,18 +122,3 @@ pub record Held (t : Bool) (f : List ℕ) (p a b n l : ℕ) : Type 0 where
   pub count : four_at f (p + 2) ≡ n
   pub present : p + 6 + packed_size t n ≤ length f
   pub symbols : Below (2 ^ l) (numbers_at t f (p + 6) n)
-
-module _ (t : Bool) (f : List ℕ) (p a b n l : ℕ) where
-  pub record_numbered : Numbered (record_checks t f p a b n l)
-  record_numbered = (omega arith, (omega arith, (omega arith, (omega arith, tt))))
-
-  pub record_passed : Passes (record_checks t f p a b n l) → Held t f p a b n l
-  record_passed (inl x) = absurd (omega arith)
-  record_passed (inr (o, inl x)) = absurd (omega arith)
-  record_passed (inr (o, inr (e, inl x))) = absurd (omega arith)
-  record_passed (inr (o, inr (e, inr (u, inl x)))) = absurd (omega arith)
-  record_passed (inr (o, inr (e, inr (u, inr (s, z))))) =
-      record { opened = opens_stable f p 6 a b o; count = equal_stable (four_at f (p + 2)) n e; present = not-less u; symbols = below_stable (2 ^ l) (numbers_at t f (p + 6) n) s }
-
-  pub record_passes : Held t f p a b n l → Passes (record_checks t f p a b n l)
-  record_passes h = inr ((λ g. g h.opened), inr ((λ g. g h.count), inr ((λ u. omega (arith, h.present)), inr ((λ g. g h.symbols), refl))))

@@ -4,7 +4,8 @@ use Rattle.std.specs.Prelude.{◌≡◌, List, ◌++◌, ℕ, length}
 use Rattle.std.proofs.Common.{sym, ◌∙◌}
 use Rattle.lists.specs.Answers.{Checks, Passes, passes-each}
 use Rattle.field.specs.Symbols.{symbols}
-use Rattle.poly.specs.Shift.{word_at, decode_unique_at}
+use Rattle.poly.specs.Shift.{word_at}
+use Rattle.poly.proofs.Shift.{decode_unique_at}
 use Rattle.space.specs.Setting.{setting_checks}
 use Rattle.space.specs.Sound.{Sound, sound, sound_field, setting_numbered}
 use Rattle.codec.specs.Calls.{length_checks, word_checks, encode_checks, decode_checks, Encoded, CoefficientsAt, Decoded}

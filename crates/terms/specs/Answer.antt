@@ -6,7 +6,7 @@ use Rattle.lists.specs.All.{All}
 use Rattle.lists.specs.Answers.{Checks, answers_one, not_refused}
 use Rattle.field.specs.Laws.{Ops}
 use Rattle.field.specs.Symbols.{symbols}
-use Rattle.poly.specs.LeastDegree.{least_unique}
+use Rattle.poly.proofs.LeastDegree.{least_unique}
 use Rattle.space.specs.Setting.{setting_checks}
 use Rattle.proximity.specs.Dim.{dim, S}
 use Rattle.proximity.specs.Reads.{same_reads}

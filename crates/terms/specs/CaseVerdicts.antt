@@ -8,7 +8,8 @@ use Rattle.lists.specs.Tables.{tab, All-tab}
 use Rattle.field.specs.Binary.{◌⊕◌, degree, product}
 use Rattle.field.specs.Symbols.{symbols}
 use Rattle.poly.specs.Codeword.{word_of, Codeword}
-use Rattle.poly.specs.LeastDegree.{LeastDegree, least_exists, least_range, least_past_limit}
+use Rattle.poly.specs.LeastDegree.{LeastDegree}
+use Rattle.poly.proofs.LeastDegree.{least_exists, least_range, least_past_limit}
 use Rattle.space.specs.Sound.{Sound, sound_field, sound_passes}
 use Rattle.correction.specs.Differences.{differences-set}
 use Rattle.proximity.specs.Cases.{basis_8, fives, all_five, one-six, basis_16, identity_word, squares}

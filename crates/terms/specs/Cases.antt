@@ -1,7 +1,8 @@
 -- The bench cases P1 to P9 of document 01 as one list, with one theorem over it.
 use Rattle.std.specs.Prelude.{List, [], ◌∷◌}
 use Rattle.field.specs.Cases.{P1, p1, P2, p2, P3, p3}
-use Rattle.poly.specs.Cases.{P4, p4}
+use Rattle.poly.specs.Cases.{P4}
+use Rattle.poly.proofs.Cases.{p4}
 use Rattle.proximity.specs.Cases.{P7, p7, P8, p8, P9, p9}
 use Rattle.terms.specs.CaseVerdicts.{P5, p5, P6, p6}
 

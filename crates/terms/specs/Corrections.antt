@@ -8,7 +8,8 @@ use Rattle.lists.specs.Calls.{Within, answer-first}
 use Rattle.lists.specs.Lengths.{lengths-right}
 use Rattle.field.specs.Binary.{degree}
 use Rattle.field.specs.Symbols.{symbols}
-use Rattle.poly.specs.Shift.{CodewordAt, codeword_shift}
+use Rattle.poly.specs.Shift.{CodewordAt}
+use Rattle.poly.proofs.Shift.{codeword_shift}
 use Rattle.space.specs.Setting.{setting_checks}
 use Rattle.space.specs.Sound.{Sound, sound, sound_field, sound_passes, setting_numbered}
 use Rattle.correction.specs.Calls.{length_checks, near_checks, correct_checks, CorrectedWord}

@@ -7,7 +7,7 @@ use Rattle.proximity.specs.Dim.{dim, R}
 use Rattle.proximity.specs.Verifier.{Accepts}
 use Rattle.verifier.specs.Checker.{reads_of}
 use Rattle.verifier.specs.declared.Verdict.TheVariants.{Accept, Reject, Refused}
-use Rattle.stored.specs.CheckLaws.{coin_passes}
+use Rattle.stored.proofs.CheckLaws.{coin_passes}
 use Rattle.stored.specs.File.{modulus_in, dim_in, basis_in, shift_in, word_in, proof_in}
 use Rattle.stored.specs.Reader.{file_checks}
 use Rattle.coins.specs.Answer as answer

@@ -8,11 +8,16 @@ use Rattle.lists.specs.Answers.{Refuses}
 use Rattle.lists.specs.Tables.{get_or_tab, tab_ext}
 use Rattle.field.specs.Laws.{Ops, IsField}
 use Rattle.field.specs.Symbols.{symbols}
-use Rattle.poly.specs.Coefficients.{coeff, low_length, low-add_p, coeff_equal, eval-coeff}
-use Rattle.poly.specs.Poly.{eval, add_p, eval-add_p, add_p_sym, sum_step}
-use Rattle.poly.specs.Span.{elem, elem_sym}
-use Rattle.poly.specs.Codeword.{Basis, basis_distinct, word_of, Codeword}
-use Rattle.poly.specs.LeastDegree.{LeastDegree, least_unique, least_range, least_shift}
+use Rattle.poly.specs.Coefficients.{coeff, low_length}
+use Rattle.poly.proofs.Coefficients.{low-add_p, coeff_equal, eval-coeff}
+use Rattle.poly.specs.Poly.{eval, add_p}
+use Rattle.poly.proofs.Poly.{eval-add_p, add_p_sym, sum_step}
+use Rattle.poly.specs.Span.{elem}
+use Rattle.poly.proofs.Span.{elem_sym}
+use Rattle.poly.specs.Codeword.{Basis, word_of, Codeword}
+use Rattle.poly.proofs.Codeword.{basis_distinct}
+use Rattle.poly.specs.LeastDegree.{LeastDegree}
+use Rattle.poly.proofs.LeastDegree.{least_unique, least_range, least_shift}
 use Rattle.poly.specs.Shift.{word_at}
 use Rattle.space.specs.Sound.{Sound, sound_field, sound_passes}
 use Rattle.correction.specs.Differences.{differences, differences-differing, differing-le, nonzeros, root-low}

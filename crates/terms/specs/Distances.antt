@@ -12,7 +12,7 @@ use Rattle.field.specs.Checks.{not-less}
 use Rattle.field.specs.Symbols.{symbols}
 use Rattle.poly.specs.Codeword.{Codeword}
 use Rattle.poly.specs.Poly.{eval}
-use Rattle.poly.specs.Shift.{codeword_shift}
+use Rattle.poly.proofs.Shift.{codeword_shift}
 use Rattle.poly.specs.Span.{elem}
 use Rattle.space.specs.Sound.{Sound, sound_field}
 use Rattle.proximity.specs.Cases.{basis_8, fives}
@@ -23,7 +23,7 @@ use Rattle.correction.specs.Near.{radius, near_shift}
 use Rattle.correction.specs.Scratch.{correction_scratch}
 use Rattle.correction.specs.declared.Correction.{Correction}
 use Rattle.correction.specs.declared.Correction.TheVariants.{Corrected, Refused}
-use Rattle.stored.specs.Accepted.{accepted}
+use Rattle.stored.proofs.Accepted.{accepted}
 use Rattle.stored.specs.File.{modulus_in, basis_in, shift_in, word_in}
 use Rattle.coins.specs.Answer.{counted-file, word_length}
 use Rattle.coins.specs.OffLaws.{off_one}

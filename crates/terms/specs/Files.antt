@@ -14,10 +14,11 @@ use Rattle.verifier.specs.declared.Verdict.{Verdict}
 use Rattle.verifier.specs.declared.Verdict.TheVariants.{Accept, Reject, Refused}
 use Rattle.stored.specs.Check.{coin_checks, AnsweredFile}
 use Rattle.stored.specs.File.{modulus_in, dim_in, basis_in, shift_in, word_in, proof_in}
-use Rattle.stored.specs.OnSymbols as on-symbols
+use Rattle.stored.proofs.OnSymbols as on-symbols
 use Rattle.stored.specs.Passed.{length_basis}
 use Rattle.stored.specs.Reader.{file_checks}
-use Rattle.stored.specs.Whole.{Delivery, accepted_delivery}
+use Rattle.stored.specs.Whole.{Delivery}
+use Rattle.stored.proofs.Whole.{accepted_delivery}
 use Rattle.prover.specs.Calls.{ProofAt}
 use Rattle.host.specs.Answer.{code_of, reads_after, HostAnswer, HostDegree}
 use Rattle.terms.specs.Answer.{same_answer}

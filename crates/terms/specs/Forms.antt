@@ -12,12 +12,13 @@ use Rattle.space.specs.Sound.{outside}
 use Rattle.proximity.specs.Dim.{dim}
 use Rattle.proximity.specs.Verifier.{positions, read_at}
 use Rattle.verifier.specs.declared.Verdict.{Verdict}
-use Rattle.stored.specs.Accepted.{setting_numbered, accepted}
+use Rattle.stored.proofs.Accepted.{setting_numbered, accepted}
 use Rattle.stored.specs.Check.{AnsweredFile}
 use Rattle.stored.specs.File.{setting_mark, word_mark, proof_mark, Carries, word_record_at, proof_record_at, file_end, form_in, modulus_in, degree_in, dim_in, basis_in, shift_at, shift_in, word_in, proof_in, end_in, Opens}
 use Rattle.stored.specs.Passed.{form-two, length_basis, head-late}
 use Rattle.stored.specs.Reader.{head_checks, basis_checks, setting_checks, word_checks, proof_checks, symbol_checks, prefix_checks, file_checks}
-use Rattle.stored.specs.Whole.{Gives, accepted_delivery}
+use Rattle.stored.specs.Whole.{Gives}
+use Rattle.stored.proofs.Whole.{accepted_delivery}
 use Rattle.stored.specs.declared.Form.{Form}
 use Rattle.stored.specs.declared.Form.TheVariants.{One, Two}
 use Rattle.filing.specs.Convert.{other, converted, converted_end, convert_checks, Converted, LengthTold}

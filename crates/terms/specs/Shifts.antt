@@ -16,7 +16,8 @@ use Rattle.field.specs.Symbols.{symbols}
 use Rattle.poly.specs.Poly.{eval}
 use Rattle.poly.specs.Span.{elem}
 use Rattle.poly.specs.Codeword.{word_of, Codeword}
-use Rattle.poly.specs.Shift.{word_at, CodewordAt, shift_p, length_shift_p, shift_p_sym, eval-shift_p, word-at-zero, codeword_shift, decode_unique_at}
+use Rattle.poly.specs.Shift.{word_at, CodewordAt, shift_p, length_shift_p}
+use Rattle.poly.proofs.Shift.{shift_p_sym, eval-shift_p, word-at-zero, codeword_shift, decode_unique_at}
 use Rattle.space.specs.Setting.{span_checks, space_checks, setting_checks}
 use Rattle.space.specs.Sizes.{max_dim}
 use Rattle.space.specs.Sound.{Sound, sound, sound_field, setting_numbered, outside}
@@ -28,7 +29,7 @@ use Rattle.correction.specs.declared.Correction.{Correction}
 use Rattle.correction.specs.declared.Correction.TheVariants as answer
 use Rattle.correction.specs.declared.Correction.TheVariants.{Corrected}
 use Rattle.proximity.specs.Dim.{dim}
-use Rattle.proximity.specs.Shifted.{honest_shift}
+use Rattle.proximity.proofs.Shifted.{honest_shift}
 use Rattle.verifier.specs.Checker as checker
 use Rattle.verifier.specs.Checker.{delivery_checks, read_checks, checker_checks}
 use Rattle.verifier.specs.Verdicts.{answered_alike}

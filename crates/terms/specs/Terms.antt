@@ -14,7 +14,8 @@ use Rattle.space.specs.Sound.{Sound, sound_field, sound_passes, setting_numbered
 use Rattle.proximity.specs.Coverage.{all_coins_read}
 use Rattle.proximity.specs.Dim.{dim, S, R}
 use Rattle.proximity.specs.Proof.{Honest}
-use Rattle.proximity.specs.Shifted.{HonestAt, honest_shift}
+use Rattle.proximity.specs.Shifted.{HonestAt}
+use Rattle.proximity.proofs.Shifted.{honest_shift}
 use Rattle.proximity.specs.Reads.{few_reads}
 use Rattle.proximity.specs.Verifier.{Accepts, positions, read_at}
 use Rattle.proximity.specs.Verdict.{accepted_sym}

@@ -16,12 +16,15 @@ use Rattle.field.specs.Laws.{Ops, IsField}
 use Rattle.field.specs.Symbols.{symbols, symbols-field}
 use Rattle.field.specs.declared.Field.{Field}
 use Rattle.poly.specs.Span.{elem}
-use Rattle.poly.specs.Novel.{image, image-zero, elem-image}
-use Rattle.poly.specs.Transform.{transform, inverse, transform_ext, inverse_ext, length_transform}
+use Rattle.poly.specs.Novel.{image}
+use Rattle.poly.proofs.Novel.{image-zero, elem-image}
+use Rattle.poly.specs.Transform.{transform, inverse}
+use Rattle.poly.proofs.Transform.{transform_ext, inverse_ext, length_transform}
 use Rattle.poly.specs.Values.{table, images_of}
 use Rattle.poly.specs.Degree.{monomials}
 use Rattle.poly.specs.Codeword.{Basis, word_of}
-use Rattle.poly.specs.Blocks.{eighths, block_shift, block_values, word_of_blocks}
+use Rattle.poly.specs.Blocks.{eighths, block_shift, block_values}
+use Rattle.poly.proofs.Blocks.{word_of_blocks}
 use Rattle.space.specs.Images.{Images}
 use Rattle.transform.specs.Lanes.{image_at, lane_shift, InLanes, Evaluated, Interpolated}
 use Rattle.transform.specs.Spans.{Zeros, image_list, SpanLanes}

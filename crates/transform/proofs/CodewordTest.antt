@@ -17,7 +17,8 @@ use Rattle.field.specs.declared.Field.{Field}
 use Rattle.poly.specs.Transform.{inverse}
 use Rattle.poly.specs.Values.{table, images_of}
 use Rattle.poly.specs.Codeword.{Basis, Codeword}
-use Rattle.poly.specs.Blocks.{block_shift, block_coeffs, codeword_blocks}
+use Rattle.poly.specs.Blocks.{block_shift, block_coeffs}
+use Rattle.poly.proofs.Blocks.{codeword_blocks}
 use Rattle.space.specs.Images.{Images}
 use Rattle.transform.specs.Slices.{Transposed}
 use Rattle.transform.specs.Blocks.{InBlocks, block, BlocksInterpolated, EqualLanes, Tested}

@@ -20,11 +20,14 @@ use Rattle.field.specs.declared.Field.{Field}
 use Rattle.poly.specs.Blocks.{eighths, block_shift, block_coeffs}
 use Rattle.poly.specs.Codeword.{Basis, Codeword}
 use Rattle.poly.specs.Coefficients.{coeff, Low, low-le, low-less}
-use Rattle.poly.specs.Joined.{block_coefficients, joined}
-use Rattle.poly.specs.Novel.{image, image-zero, elem-image}
-use Rattle.poly.specs.NovelDegree.{novel_degree}
+use Rattle.poly.specs.Joined.{block_coefficients}
+use Rattle.poly.proofs.Joined.{joined}
+use Rattle.poly.specs.Novel.{image}
+use Rattle.poly.proofs.Novel.{image-zero, elem-image}
+use Rattle.poly.proofs.NovelDegree.{novel_degree}
 use Rattle.poly.specs.Span.{elem}
-use Rattle.poly.specs.Transform.{inverse, inverse_ext, length_inverse}
+use Rattle.poly.specs.Transform.{inverse}
+use Rattle.poly.proofs.Transform.{inverse_ext, length_inverse}
 use Rattle.poly.specs.Values.{table, images_of}
 use Rattle.space.specs.Images.{Images, upper_images, upper_image}
 use Rattle.transform.specs.Blocks.{InBlocks, block, BlocksInterpolated, EqualLanes}

@@ -18,7 +18,8 @@ use Rattle.field.specs.Xor.{xor_assoc, xor_below}
 use Rattle.field.specs.Symbols.{symbols}
 use Rattle.field.specs.declared.Field.{Field}
 use Rattle.poly.specs.Poly.{add_p}
-use Rattle.poly.specs.Transform.{folded, unfolded, transform, inverse, shifted, transform_layer, inverse_layer, transform_ext, inverse_ext}
+use Rattle.poly.specs.Transform.{folded, unfolded, transform, inverse, shifted}
+use Rattle.poly.proofs.Transform.{transform_layer, inverse_layer, transform_ext, inverse_ext}
 use Rattle.transform.specs.Layers.{Layered, Unlayered}
 use Rattle.transform.specs.Lanes.{image_at, lane_shift, Shifted, InLanes, Evaluated, Interpolated}
 use Rattle.space.specs.Sizes.{max_dim}

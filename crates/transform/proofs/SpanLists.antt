@@ -14,8 +14,9 @@ use Rattle.lists.specs.Tables.{length_tab, get_or_tab}
 use Rattle.lists.specs.Lanes.{place-fits}
 use Rattle.field.specs.Binary.{◌⊕◌, Irreducible}
 use Rattle.field.specs.Symbols.{symbols, symbols-field}
-use Rattle.poly.specs.Span.{elem, elem-zero}
-use Rattle.poly.specs.Novel.{elem-high}
+use Rattle.poly.specs.Span.{elem}
+use Rattle.poly.proofs.Span.{elem-zero}
+use Rattle.poly.proofs.Novel.{elem-high}
 use Rattle.space.specs.Sizes.{lane_cells}
 use Rattle.transform.proofs.Halves.{next_pow}
 use Rattle.transform.specs.Lanes.{image_at}

@@ -7,7 +7,7 @@ use Rattle.lists.specs.Tables.{All-tab}
 use Rattle.field.specs.Binary.{degree, Irreducible}
 use Rattle.field.specs.Laws.{Ops, IsField}
 use Rattle.field.specs.Symbols.{symbols, symbols-field}
-use Rattle.poly.specs.Span.{elem_sym}
+use Rattle.poly.proofs.Span.{elem_sym}
 use Rattle.transform.specs.Lanes.{image_at}
 use Rattle.transform.specs.Spans.{image_list, SpanLanes}
 

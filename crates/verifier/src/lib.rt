@@ -1,5 +1,6 @@
 // The checker for one coin.
 #![tactic(auto)]
+
 mod blocks;
 mod gather;
 pub mod parts;

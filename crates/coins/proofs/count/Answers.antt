@@ -5,7 +5,7 @@ use native.Mathlib.Omega.{arith}
 use lib.ListN.{length, take}
 use lib.Seq.{length-take-le}
 use Rattle.stored.specs.Bytes.{numbers_at}
-use Rattle.stored.specs.CheckLaws.{read-passes}
+use Rattle.stored.proofs.CheckLaws.{read-passes}
 use Rattle.stored.specs.File.{file_limit, small_dim, modulus_in, basis_in, word_in}
 use Rattle.stored.specs.declared.Reading.{Reading}
 use Rattle.coins.specs.Answer.{told-long, told_refused, told_totals}

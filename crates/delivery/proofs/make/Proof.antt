@@ -8,7 +8,7 @@ use lib.Seq.{length-take-le}
 use Rattle.lists.specs.Answers.{Passes}
 use Rattle.space.specs.Ready.{Ready}
 use Rattle.space.specs.declared.Setting.{Setting}
-use Rattle.stored.specs.Accepted.{setting_ready}
+use Rattle.stored.proofs.Accepted.{setting_ready}
 use Rattle.stored.specs.File.{file_of, form_in, modulus_in, basis_in, shift_in, end_in}
 use Rattle.stored.specs.Reader.{SettingRead}
 use Rattle.delivery.specs.Parts.{Passed}

@@ -7,8 +7,8 @@ use Rattle.lists.specs.Answers.{Answers, Passes}
 use Rattle.field.specs.Binary.{degree}
 use Rattle.space.specs.Ready.{Ready}
 use Rattle.space.specs.Setting.{setting_of}
-use Rattle.stored.specs.Accepted.{told_accepted, told_refuses, read_places}
-use Rattle.stored.specs.CheckLaws.{read-passes, read_ready, read_dimension}
+use Rattle.stored.proofs.Accepted.{told_accepted, told_refuses, read_places}
+use Rattle.stored.proofs.CheckLaws.{read-passes, read_ready, read_dimension}
 use Rattle.stored.specs.File.{layout_of, form_in, modulus_in, dim_in, basis_in, shift_in}
 use Rattle.stored.specs.Reader.{file_checks, read_of}
 use Rattle.stored.specs.declared.Layout.{Layout}

@@ -4,8 +4,8 @@ use mathlib.Core.Logic.{inl, inr}
 use mathlib.Core.List.{List}
 use Prim.Native.Nat.{ℕ}
 use Rattle.proximity.specs.Dim.{R}
-use Rattle.stored.specs.Accepted.{told_refused}
-use Rattle.stored.specs.CheckLaws.{read-passes, read_dimension, read_laid}
+use Rattle.stored.proofs.Accepted.{told_refused}
+use Rattle.stored.proofs.CheckLaws.{read-passes, read_dimension, read_laid}
 use Rattle.stored.specs.Reader.{file_checks}
 use borrow.Author.Rules.{rules}
 use Rattle.host.proofs.proximity_coin_bits.Statement.{statement}

@@ -9,7 +9,7 @@ use Rattle.lists.specs.Answers.{Checks, Answers, Passes}
 use Rattle.field.specs.Binary.{degree}
 use Rattle.space.specs.Ready.{Ready}
 use Rattle.space.specs.declared.Setting.{Setting}
-use Rattle.stored.specs.Accepted.{setting-passed, setting_refuses, setting_ready, setting_dimension, read-setting, told_accepted, told_refuses}
+use Rattle.stored.proofs.Accepted.{setting-passed, setting_refuses, setting_ready, setting_dimension, read-setting, told_accepted, told_refuses}
 use Rattle.stored.specs.File.{layout_of, file_limit, form_in, modulus_in, degree_in, dim_in, basis_in, end_in}
 use Rattle.stored.specs.Passed.{Head}
 use Rattle.stored.specs.Reader.{symbol_checks, SettingRead, read_of}

@@ -6,7 +6,8 @@ use lib.ListN.{length}
 use Rattle.lists.specs.All.{Below, All-inside}
 use Rattle.field.specs.Binary.{degree, Irreducible}
 use Rattle.field.specs.Symbols.{symbols, symbols-field}
-use Rattle.poly.specs.Novel.{step, step_sym}
+use Rattle.poly.specs.Novel.{step}
+use Rattle.poly.proofs.Novel.{step_sym}
 use Rattle.space.proofs.Progress.{SoFar, so_far-start, so_far-next, tabled_none, tabled_all, steps-below, inverses_below, step_right}
 use Rattle.space.specs.Sizes.{max_dim}
 use Rattle.space.proofs.tabulate.Goals.{Start, At-loop-i, After-fill_row-s}

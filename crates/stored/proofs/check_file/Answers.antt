@@ -8,7 +8,7 @@ use Rattle.field.specs.Checks.{not-less}
 use Rattle.field.specs.Ranges.{high-bits_test}
 use Rattle.proximity.specs.Dim.{R}
 use Rattle.proximity.specs.LineLaws.{R-small}
-use Rattle.stored.specs.CheckLaws.{refused_file, refused_coin, read-passes, read_dimension, read-basis, read-images, read_space, read_laid, read_answer}
+use Rattle.stored.proofs.CheckLaws.{refused_file, refused_coin, read-passes, read_dimension, read-basis, read-images, read_space, read_laid, read_answer}
 use Rattle.stored.specs.File.{dim_in, basis_in}
 use Rattle.stored.specs.declared.Reading.{Reading}
 use Rattle.space.specs.Sizes.{max_dim}

@@ -1,5 +1,5 @@
 use native.Mathlib.Omega.{arith}
-use Rattle.stored.specs.Accepted.{told-prefix_refused, told-end, told-longer, told-whole}
+use Rattle.stored.proofs.Accepted.{told-prefix_refused, told-end, told-longer, told-whole}
 use Rattle.stored.proofs.read.Goals.{After-read_prefix-r, Else-number-ne0}
 use Rattle.stored.proofs.read.Goals as goal
 

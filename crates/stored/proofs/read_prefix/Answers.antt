@@ -1,7 +1,7 @@
 use mathlib.Core.List.{List}
 use Prim.Native.Nat.{ℕ}
 use Rattle.lists.specs.Answers.{refused_first}
-use Rattle.stored.specs.Accepted.{setting_numbered, setting_refuses, read-setting, told-number, told-after}
+use Rattle.stored.proofs.Accepted.{setting_numbered, setting_refuses, read-setting, told-number, told-after}
 use Rattle.stored.specs.File.{form_in, degree_in, dim_in}
 use Rattle.stored.specs.Reader.{setting_checks, symbol_checks, prefix_checks, SettingRead}
 use Rattle.stored.proofs.read_prefix.Goals.{After-setting_of-c, Else-early-ne0}

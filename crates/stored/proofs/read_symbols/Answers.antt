@@ -9,7 +9,7 @@ use Rattle.field.specs.Binary.{degree}
 use Rattle.space.specs.Ready.{Ready}
 use Rattle.space.specs.Sizes.{max_dim}
 use Rattle.space.specs.declared.Setting.{Setting}
-use Rattle.stored.specs.Accepted.{setting-passed, setting_ready, setting_dimension, told-number, read_made}
+use Rattle.stored.proofs.Accepted.{setting-passed, setting_ready, setting_dimension, told-number, read_made}
 use Rattle.stored.specs.File.{word_record_at, layout_of, form_in, modulus_in, degree_in, dim_in, basis_in}
 use Rattle.stored.specs.Passed.{Head}
 use Rattle.stored.specs.Reader.{symbol_checks}

@@ -4,7 +4,8 @@ use mathlib.Core.List.{List}
 use Prim.Native.Nat.{ℕ, ◌-◌, ◌^◌}
 use native.Mathlib.Omega.{arith}
 use lib.ListN.{take, drop}
-use Rattle.stored.specs.Accepted.{told_accepted, told_refuses, Places, read_places}
+use Rattle.stored.specs.Accepted.{Places}
+use Rattle.stored.proofs.Accepted.{told_accepted, told_refuses, read_places}
 use Rattle.stored.specs.Bytes.{packed_size}
 use Rattle.stored.specs.File.{dim_in, narrow_in}
 use Rattle.stored.specs.Reader.{file_checks}

@@ -8,7 +8,7 @@ use lib.Seq.{length-take-le}
 use Rattle.lists.specs.All.{Below}
 use Rattle.lists.specs.Decides.{decides_true, decides_false}
 use Rattle.field.specs.Binary.{degree}
-use Rattle.poly.specs.Shift.{codeword_shift}
+use Rattle.poly.proofs.Shift.{codeword_shift}
 use Rattle.space.specs.Usable.{ready_field}
 use Rattle.codec.proofs.WordLaws.{front_below, tested_zero, tested_none, coefficients_at_lem}
 use Rattle.codec.proofs.decoder.decode_with.Goals.{Start, After-all_symbols, Then-all_symbols, After-is_codeword, Then-is_codeword, After-read_coefficients}

@@ -12,8 +12,9 @@ use Rattle.lists.specs.Stretch.{stretch}
 use Rattle.field.specs.Binary.{degree}
 use Rattle.field.specs.Symbols.{symbols}
 use Rattle.poly.specs.Codeword.{word_of}
-use Rattle.poly.specs.Span.{elem, elem_sym}
-use Rattle.poly.specs.Shift.{word-at-values}
+use Rattle.poly.specs.Span.{elem}
+use Rattle.poly.proofs.Span.{elem_sym}
+use Rattle.poly.proofs.Shift.{word-at-values}
 use Rattle.space.specs.Sizes.{max_dim, max_coefficients}
 use Rattle.space.specs.Usable.{ready_field}
 use Rattle.novel.specs.Shift.{Shifted}

@@ -5,7 +5,7 @@ use native.Mathlib.Omega.{arith}
 use lib.ListN.{length, take}
 use lib.Seq.{length-take-le}
 use Rattle.stored.specs.Bytes.{packed_size}
-use Rattle.stored.specs.CheckLaws.{read_laid}
+use Rattle.stored.proofs.CheckLaws.{read_laid}
 use Rattle.stored.specs.Packed.{front_length, front-numbers}
 use Rattle.stored.specs.declared.Reading.{Reading}
 use Rattle.coins.proofs.FileSymbols.{symbol_count, small, count-is, few_symbols}

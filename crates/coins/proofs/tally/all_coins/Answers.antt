@@ -14,7 +14,7 @@ use Rattle.verifier.proofs.Laws.{one_shifted}
 use Rattle.verifier.specs.Checker.{reads_of, OnCoin}
 use Rattle.stored.specs.Bytes.{numbers_at}
 use Rattle.stored.specs.Check.{AnsweredFile}
-use Rattle.stored.specs.CheckLaws.{read-passes, read_dimension, read-basis, read-images, read_space, read_laid, read_answer}
+use Rattle.stored.proofs.CheckLaws.{read-passes, read_dimension, read-basis, read-images, read_space, read_laid, read_answer}
 use Rattle.stored.specs.File.{dim_in, basis_in}
 use Rattle.stored.specs.Packed.{length_numbers}
 use Rattle.stored.specs.Reader.{file_checks, Told}

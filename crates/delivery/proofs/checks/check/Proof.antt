@@ -5,7 +5,7 @@ use mathlib.Core.List.{List}
 use Prim.Native.Nat.{ℕ, ◌<◌}
 use native.Mathlib.Omega.{arith}
 use Rattle.lists.specs.Answers.{Answers}
-use Rattle.stored.specs.Accepted.{read-setting}
+use Rattle.stored.proofs.Accepted.{read-setting}
 use Rattle.stored.specs.Reader.{SettingRead}
 use Rattle.delivery.specs.Message.{rest_checks}
 use Rattle.delivery.specs.MessageLaws.{setting_refused, rest-answer}

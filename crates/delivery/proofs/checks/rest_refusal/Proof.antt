@@ -9,7 +9,7 @@ use Rattle.field.specs.Binary.{degree}
 use Rattle.space.specs.Ready.{Ready}
 use Rattle.space.specs.Sizes.{max_dim}
 use Rattle.space.specs.declared.Setting.{Setting}
-use Rattle.stored.specs.Accepted.{setting-passed, setting_ready, setting_dimension}
+use Rattle.stored.proofs.Accepted.{setting-passed, setting_ready, setting_dimension}
 use Rattle.stored.specs.File.{modulus_in, dim_in, basis_in, end_in}
 use Rattle.stored.specs.Passed.{Head}
 use Rattle.delivery.specs.Message.{coefficient_record_at, room_checks, coefficient_checks}

@@ -9,7 +9,7 @@ use lib.Seq.{length-take-le}
 use Rattle.field.specs.Binary.{degree}
 use Rattle.space.specs.Setting.{setting_of}
 use Rattle.space.specs.declared.Setting.{Setting}
-use Rattle.stored.specs.Accepted.{setting_ready, setting_dimension}
+use Rattle.stored.proofs.Accepted.{setting_ready, setting_dimension}
 use Rattle.stored.specs.Bytes.{numbers_at}
 use Rattle.stored.specs.File.{Carries, file_end, word_record_at, small_dim, form_in, modulus_in, dim_in, basis_in, shift_in}
 use Rattle.stored.specs.Passed.{basis-first, length_basis, record_size}

@@ -11,13 +11,15 @@ use Rattle.field.specs.Checks.{degree_range}
 use Rattle.space.specs.Sizes.{max_dim}
 use Rattle.proximity.specs.Dim.{S}
 use Rattle.proximity.specs.LineLaws.{S-small}
-use Rattle.stored.specs.Accepted.{Accepted, accepted}
+use Rattle.stored.specs.Accepted.{Accepted}
+use Rattle.stored.proofs.Accepted.{accepted}
 use Rattle.stored.specs.Bytes.{packed_size, numbers_at}
 use Rattle.stored.specs.File.{word_mark, proof_mark, narrow_of, setting_record, word_record, proof_record, word_record_at, word_start, proof_record_at, proof_start, layout_of, file_end, form_in, modulus_in, degree_in, dim_in, basis_in, shift_in, narrow_in, word_in, proof_in}
 use Rattle.stored.specs.Packed.{number_top, narrow_top}
 use Rattle.stored.specs.Passed.{basis-first, length_basis}
 use Rattle.stored.specs.Reader.{file_checks}
-use Rattle.stored.specs.Whole.{Delivery, accepted_delivery}
+use Rattle.stored.specs.Whole.{Delivery}
+use Rattle.stored.proofs.Whole.{accepted_delivery}
 use Rattle.stored.specs.declared.Form.{Form}
 use Rattle.stored.specs.declared.Layout.{Layout}
 use Rattle.stored.proofs.Laws.{word_count}

@@ -6,7 +6,8 @@ use Rattle.lists.specs.Answers.{Answers, Passes, answers-after, refused_first}
 use Rattle.field.specs.Binary.{degree}
 use Rattle.proximity.specs.LineLaws.{S-small}
 use Rattle.stored.specs.File.{word_mark, narrow_of, word_record_at, word_start, proof_record_at, proof_start}
-use Rattle.stored.specs.Passed.{Held, record_numbered, record_passed}
+use Rattle.stored.specs.Passed.{Held}
+use Rattle.stored.proofs.Passed.{record_numbered, record_passed}
 use Rattle.stored.specs.Reader.{word_checks, proof_checks}
 use Rattle.stored.specs.declared.Form.{Form}
 use Rattle.stored.specs.declared.Layout.{Layout}

@@ -15,14 +15,15 @@ use Rattle.verifier.specs.Verdicts.{answered_alike, told-delivery, delivery-pass
 use Rattle.verifier.specs.declared.Rejection.{Rejection}
 use Rattle.verifier.specs.declared.Verdict.{Verdict}
 use Rattle.verifier.specs.declared.Verdict.TheVariants.{Reject}
-use Rattle.stored.specs.Accepted.{file_numbered}
+use Rattle.stored.proofs.Accepted.{file_numbered}
 use Rattle.stored.specs.Check.{coin_checks, AnsweredFile}
-use Rattle.stored.specs.CheckLaws.{refused_coin, coin_passes}
+use Rattle.stored.proofs.CheckLaws.{refused_coin, coin_passes}
 use Rattle.stored.specs.File.{modulus_in, dim_in, basis_in, shift_in, word_in, proof_in}
 use Rattle.stored.specs.InRange.{symbols-below}
 use Rattle.stored.specs.Passed.{length_basis}
 use Rattle.stored.specs.Reader.{file_checks}
-use Rattle.stored.specs.Whole.{Delivery, accepted_delivery}
+use Rattle.stored.specs.Whole.{Delivery}
+use Rattle.stored.proofs.Whole.{accepted_delivery}
 
 -- ---- the checks
 

@@ -14,7 +14,8 @@ use Rattle.verifier.specs.Checker.{read_checks, OnCoin}
 use Rattle.verifier.specs.Parts.{InSpace, ready_space}
 use Rattle.verifier.specs.Verdicts.{answered_alike}
 use Rattle.verifier.specs.declared.Verdict.{Verdict}
-use Rattle.stored.specs.Accepted.{Accepted, accepted, setting-passes, setting_ready, file_numbered, Places, read_places, told_accepted, told_refuses}
+use Rattle.stored.specs.Accepted.{Accepted, Places}
+use Rattle.stored.proofs.Accepted.{accepted, setting-passes, setting_ready, file_numbered, read_places, told_accepted, told_refuses}
 use Rattle.stored.specs.Bytes.{numbers_at}
 use Rattle.stored.specs.Check.{coin_checks, AnsweredFile, Laid}
 use Rattle.stored.specs.File.{modulus_in, dim_in, basis_in, narrow_in, word_in, proof_in}

@@ -15,7 +15,8 @@ use Rattle.space.specs.Sizes.{max_dim}
 use Rattle.space.specs.Sound.{Sound}
 use Rattle.proximity.specs.Dim.{S}
 use Rattle.proximity.specs.LineLaws.{S-small}
-use Rattle.stored.specs.Accepted.{Prefix, accepted_passes}
+use Rattle.stored.specs.Accepted.{Prefix}
+use Rattle.stored.proofs.Accepted.{accepted_passes}
 use Rattle.stored.specs.ByteLaws.{two_back, four_back, get_d_after, two-after, four_after, two-below, four_below}
 use Rattle.stored.specs.Bytes.{two_bytes, four_bytes, packed, packed_size, two_at, four_at, numbers_at}
 use Rattle.stored.specs.File.{setting_mark, word_mark, proof_mark, narrow_of, shift_bytes, Carries, setting_record, symbol_record, word_record, proof_record, file_of, word_record_at, word_start, proof_record_at, proof_start, file_end, form_in, modulus_in, dim_in, basis_in, shift_at, shift_in, word_in, proof_in}

@@ -1,0 +1,19 @@
+-- Laws that belong to no one function.
+pub mod Poly
+pub mod Unique
+pub mod Coefficients
+pub mod Interpolate
+pub mod Span
+pub mod Codeword
+pub mod Shift
+pub mod Novel
+pub mod LeastDegree
+pub mod Transform
+pub mod Values
+pub mod Degree
+pub mod NovelDegree
+pub mod Joined
+pub mod Blocks
+pub mod Tower
+pub mod ImageTable
+pub mod Cases
