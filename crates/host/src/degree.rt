@@ -9,8 +9,7 @@ use verifier::Verdict;
 //
 // Ruled out: the dimension of the file in place of that of the symbols read; a degree that accept
 // tells.
-#[unsafe(no_mangle)]
-pub extern "C" fn proximity_check_degree(
+pub fn proximity_check_degree(
     file: &[u8],
     coin: u64,
     reads: &mut u32,

@@ -3,7 +3,7 @@
 // calls.
 #![tactic(auto)]
 
-mod degree;
+pub mod degree;
 
 ghost use Rattle.lists.specs.Answers.{Answers};
 ghost use Rattle.stored.specs.Reader.{file_checks};
@@ -15,8 +15,7 @@ use verifier::Verdict;
 // The number of the first check that refuses the file, or 0.
 //
 // Ruled out: 0 for a file with a byte after its last record; a number for an accepted file.
-#[unsafe(no_mangle)]
-pub extern "C" fn proximity_file_refusal(file: &[u8]) -> u32
+pub fn proximity_file_refusal(file: &[u8]) -> u32
     ensures { Answers (file_checks file.now) result }
 {
     let reading = stored::read(file);
@@ -28,8 +27,7 @@ pub extern "C" fn proximity_file_refusal(file: &[u8]) -> u32
 // 0 where the file is refused.
 //
 // Ruled out: the 6 bits of dimension 7 for a refused file that names it; one bit more than R.
-#[unsafe(no_mangle)]
-pub extern "C" fn proximity_coin_bits(file: &[u8]) -> u32
+pub fn proximity_coin_bits(file: &[u8]) -> u32
     ensures { CoinBits file.now result }
 {
     let reading = stored::read(file);
@@ -46,8 +44,7 @@ pub extern "C" fn proximity_coin_bits(file: &[u8]) -> u32
 //
 // Ruled out: 0 for a file that is rejected at this coin; a number of reads that a refused call
 // writes, or 64 reads for every accepted file.
-#[unsafe(no_mangle)]
-pub extern "C" fn proximity_check_file(file: &[u8], coin: u64, reads: &mut u32) -> u32
+pub fn proximity_check_file(file: &[u8], coin: u64, reads: &mut u32) -> u32
     ensures { HostAnswer file.now coin reads.old reads.new result }
 {
     match stored::check_file(file, coin) {
@@ -67,8 +64,7 @@ pub extern "C" fn proximity_check_file(file: &[u8], coin: u64, reads: &mut u32) 
 // refusal (the file's checks, then 14), which leaves `converted` as it came.
 //
 // Ruled out: the length of the file itself; a length that a refused call writes.
-#[unsafe(no_mangle)]
-pub extern "C" fn proximity_converted_length(file: &[u8], converted: &mut usize) -> u32
+pub fn proximity_converted_length(file: &[u8], converted: &mut usize) -> u32
     ensures { HostLength file.now converted.old converted.new result }
 {
     let found = filing::converted_length(file);
@@ -85,8 +81,7 @@ pub extern "C" fn proximity_converted_length(file: &[u8], converted: &mut usize)
 // output of another length), which leaves the output as it came.
 //
 // Ruled out: 0 for a file with a shift other than 0; an output that a refused call changes.
-#[unsafe(no_mangle)]
-pub extern "C" fn proximity_convert(file: &[u8], out: &mut [u8]) -> u32
+pub fn proximity_convert(file: &[u8], out: &mut [u8]) -> u32
     ensures { HostConverted file.now out.old out.new result }
 {
     filing::number_of(filing::convert(file, out)) as u32

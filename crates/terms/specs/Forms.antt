@@ -24,7 +24,7 @@ use Rattle.stored.specs.declared.Form.TheVariants.{One, Two}
 use Rattle.filing.specs.Convert.{other, converted, converted_end, convert_checks, Converted, LengthTold}
 use Rattle.filing.specs.ConvertLaws.{one-file, converted_accepted, converted_gives, length_converted, there_and_back, shift_refused, shift_passes, convert_refused, convert_long, convert_passes, convert_passed, length_told}
 use Rattle.filing.specs.Filed.{Filed}
-use Rattle.filing.specs.Writer.{Wrote}
+use Rattle.filing.specs.Writer.{Wrote, writer_checks}
 use Rattle.filing.specs.WriterLaws as writer
 use Rattle.filing.specs.declared.ConvertedLength.{ConvertedLength}
 use Rattle.filing.specs.declared.Outcome.{Outcome}
@@ -97,7 +97,7 @@ pub accepted_written : (f : List ℕ) → Below 256 f → Passes (file_checks f)
     → Wrote (form_in f) (modulus_in f) (basis_in f) (shift_in f) (word_in f) (proof_in f) old new u → (u ≡ Written) × (new ≡ f)
 accepted_written f b p old new u l t =
     let room : length old ≡ file_end (form_in f) (degree_in f) (length (basis_in f)) = l ∙ (accepted f p).whole ∙ ap (file_end (form_in f) (degree_in f)) (sym (length_basis f)) in
-    let (e, w) = filed _ _ old new u (writer.writer_passes (form_in f) (modulus_in f) (basis_in f) (shift_in f) (word_in f) (proof_in f) (length old) (accepted_delivery f p) room) t in
+    let (e, w) = filed (writer_checks (form_in f) (modulus_in f) (basis_in f) (shift_in f) (word_in f) (proof_in f) (length old)) _ old new u (writer.writer_passes (form_in f) (modulus_in f) (basis_in f) (shift_in f) (word_in f) (proof_in f) (length old) (accepted_delivery f p) room) t in
     (e, w ∙ sym (one-file b p (record { form = refl; modulus = refl; basis = refl; shift = refl; word = refl; proof = refl })))
 
 -- ---- the converter

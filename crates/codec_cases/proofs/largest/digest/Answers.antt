@@ -1,0 +1,10 @@
+use Prim.Native.Nat.{◌-◌, ◌≤◌, ◌<◌}
+use native.Mathlib.Omega.{arith}
+use lib.ListN.{length}
+use Rattle.codec_cases.proofs.largest.digest.Goals as goal
+
+pub overflow_cast-h : goal.overflow_cast-h
+overflow_cast-h c = omega (arith, c.shared_slice_known-1.given c.loop-i.i)
+
+pub overflow_add-h : goal.overflow_add-h
+overflow_add-h c = omega (arith, c.shared_slice_known-1.given c.loop-i.i)
