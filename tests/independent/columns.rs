@@ -101,10 +101,10 @@ fn lengths(t: &mut Tally, name: &str, d: &mut Draw, y: &Delivery) {
     let calls: [(Call, &[u16], &[u16]); 3] = [(calls::encode, &y.p, w), (calls::decode, w, &y.p), (calls::prove, w, proof)];
     for (call, given, right) in calls {
         for given in [&given[1..], &longer(given)] {
-            seen(6, gives(d, y, call, given, 6, right, enough));
+            seen(6, gives(d, y, call, given, 6, right, enough + 5));
         }
-        seen(6, gives(d, y, call, given, 6, &right[1..], enough));
-        seen(6, gives(d, y, call, given, 6, &longer(right), enough));
+        seen(6, gives(d, y, call, given, 6, &right[1..], enough + 5));
+        seen(6, gives(d, y, call, given, 6, &longer(right), enough + 5));
         seen(7, gives(d, y, call, given, 7, right, enough - 1));
     }
     let scratch = d.list(model::CORRECTION_SCRATCH << y.k, 65536);

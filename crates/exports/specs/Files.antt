@@ -8,7 +8,7 @@ use Rattle.delivery.specs.declared.Made.TheVariants as made
 use Rattle.report.specs.declared.Entry.{Entry}
 use Rattle.stored.specs.Reader.{PartTold}
 
--- how many bytes are written, at most fileLimit; or 65536 and the number of the refusal
+-- how many bytes are written, at most file_limit; or 65536 and the number of the refusal
 abbrev pub made_code : Made → ℕ
 made_code (made.Written n) = n % 65536
 made_code (made.Refused n) = 65536 + n

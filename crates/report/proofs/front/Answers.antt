@@ -77,14 +77,20 @@ module _ (c : goal.After-read_symbols-r) where
   abbrev r : Reading
   r = c.read_symbols-r.result
 
-  answered : (n : ℕ) → Answers (checks here) n → Answers (entry_checks (bytes here)) n
-  answered n a = records-answer (bytes here) n (given here).0 (omega (arith, size (goal.at.After-read_symbols-r c).After-layout-p, c.if-p-gt-FILE_LIMIT.false)) a
+  answered : end_in (bytes here) ≤ file_limit → (n : ℕ) → Answers (checks here) n → Answers (entry_checks (bytes here)) n
+  answered few n a = records-answer (bytes here) n (given here).0 few a
+
+  -- where the bytes end, as the layout has it
+  ends : c.layout-p.result.end ≡ end_in (bytes here)
+  ends = size (goal.at.After-read_symbols-r c).After-layout-p
 
 pub returns-then-late-ne0 : goal.returns-then-late-ne0
 returns-then-late-ne0 c = let t = (goal.at.returns-then-late-ne0 c).After-read_symbols-r in
     let s = bytes (here t) in
     let a = told_refuses s (checks (here t)) (r t) t.read_symbols-r.ensures c.if-late-ne0.true in
-    told-number s c.refused-then-late-ne0.result (r t).refusal c.if-late-ne0.true (answered t (r t).refusal a.1) c.refused-then-late-ne0.ensures
+    told-number s c.refused-then-late-ne0.result (r t).refusal c.if-late-ne0.true
+    (answered t (omega (arith, ends t, t.if-p-gt-FILE_LIMIT.false)) (r t).refusal a.1)
+    c.refused-then-late-ne0.ensures
 
 -- the file is accepted
 module _ (c : goal.Else-late-ne0) where
@@ -97,32 +103,34 @@ module _ (c : goal.Else-late-ne0) where
   told : Passes (checks (here read)) × (r read ≡ read_of s)
   told = told_accepted s (checks (here read)) (r read) read.read_symbols-r.ensures c.if-late-ne0.false
 
-  passes : Passes (entry_checks s)
-  passes = answered read 0 told.0
+  passes : end_in s ≤ file_limit → Passes (entry_checks s)
+  passes few = answered read few 0 told.0
 
   end : (r read).end ≡ end_in s
   unfolding read_of
   end = ap (λ (x : Reading). x.end) told.1
 
-  inside : (r read).end ≤ length s
-  inside = omega (arith, end, entry_present s passes)
+  inside : end_in s ≤ file_limit → (r read).end ≤ length s
+  inside few = omega (arith, end, entry_present s (passes few))
 
   file-is : take (r read).end s ≡ file_in s
   file-is = ap (λ (n : ℕ). take n s) end
 
 pub slice_bounds-all_coins-end : goal.slice_bounds-all_coins-end
-slice_bounds-all_coins-end c = sym (length-take-le _ _ (inside c))
+slice_bounds-all_coins-end c = sym (length-take-le _ _ (inside c (omega (arith, ends (read c), c.if-p-gt-FILE_LIMIT.false))))
 
 pub all_coins-t-requires : goal.all_coins-t-requires
 all_coins-t-requires c = let e = c in
+    let few : end_in (s e) ≤ file_limit = omega (arith, ends (read e), e.if-p-gt-FILE_LIMIT.false) in
     subst (λ (f : List ℕ). Rattle.coins.specs.Tally.Readable f (r (read e)) × (length f ≤ file_limit)) (sym (file-is e))
-    (entry_readable (s e) (passes e) (r (read e)) (told e).1, omega (arith, file_length (s e) (passes e), entry_limit (s e) (passes e)))
+    (entry_readable (s e) (passes e few) (r (read e)) (told e).1, omega (arith, file_length (s e) (passes e few), entry_limit (s e) (passes e few)))
 
 pub returns : goal.returns
 returns c = let e = (goal.at.returns c).Else-late-ne0 in
     let t = c.all_coins-t.result in
+    let few : end_in (s e) ≤ file_limit = omega (arith, ends (read e), c.if-p-gt-FILE_LIMIT.false) in
     inl (
-      passes e,
+      passes e few,
       refl,
       subst (λ (f : List ℕ). Swept f t.k t.coins t.rejects t.most) (file-is e) c.all_coins-t.ensures,
       end e,
