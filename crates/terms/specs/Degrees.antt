@@ -1,6 +1,6 @@
 -- The degree behind a reject. `Told m bs σ w π coin (Reject r)` says of it: r.degree is the least degree of a polynomial through the symbols at the
 -- coin's positions, as a word over the space at which the coin ends, and r.dimension is the dimension of that space.
-use Rattle.std.specs.Prelude.{◌≡◌, refl, ◌⊎◌, List, ℕ, suc, ◌+◌, ◌-◌, ◌^◌, ◌≤◌, ◌<◌, length}
+use Rattle.std.specs.Prelude.{◌≡◌, refl, ◌⊎◌, List, ℕ, suc, ◌+◌, ◌^◌, ◌≤◌, ◌<◌, length}
 use Rattle.std.proofs.Common.{sym, ap, ◌∙◌, subst, inl, inr, arith}
 use Rattle.std.proofs.Math.Decide.{dec_le}
 use Rattle.lists.specs.All.{All, IsZero}
@@ -23,7 +23,7 @@ use Rattle.space.specs.Sound.{Sound, sound_field, sound_passes}
 use Rattle.correction.specs.Differences.{differences, differences-differing, differing-le, nonzeros, root-low}
 use Rattle.proximity.specs.Dim.{dim, S, R}
 use Rattle.proximity.specs.Verdict.{degree_exists}
-use Rattle.proximity.specs.Verifier.{Accepts, positions, leaf_dim, leaf_basis}
+use Rattle.proximity.specs.Verifier.{Accepts, leaf_dim, leaf_basis}
 use Rattle.verifier.specs.Checker.{symbols_at, reads_of, Told}
 use Rattle.verifier.specs.Rejected.{InBounds, told_bounds}
 use Rattle.verifier.specs.Verdicts.{told_coin, delivery-passes}

@@ -8,11 +8,10 @@ use Rattle.lists.specs.Decides.{decides_true}
 use Rattle.lists.specs.Overwrite.{length-put}
 use Rattle.stored.specs.File.{file_limit}
 use Rattle.report.specs.Bounds.{told_bounded}
-use Rattle.report.specs.Report.{most_files, GoesOn, Added}
+use Rattle.report.specs.Report.{GoesOn, Added}
 use Rattle.report.specs.Steps.{next-added}
 use Rattle.report.specs.declared.Report.{Report}
 use borrow.Rule.Slice.PartMut.{put_mid}
-use borrow.Author.Rules.{rules}
 use Rattle.delivery_report.proofs.run.Goals.{At-loop-bytes, After-read_full-n, After-next-report}
 use Rattle.delivery_report.proofs.run.Goals as goal
 

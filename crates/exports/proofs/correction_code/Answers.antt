@@ -1,5 +1,4 @@
 use mathlib.Core.Path.{sym, ap}
-use borrow.Author.Rules.{rules}
 use Rattle.exports.specs.Codes.{correction_code}
 use Rattle.exports.proofs.correction_code.Goals as goal
 

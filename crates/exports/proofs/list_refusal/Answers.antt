@@ -6,7 +6,6 @@ use Prim.Native.Nat.{ℕ, ◌^◌}
 use Rattle.lists.specs.All.{Below}
 use Rattle.lists.specs.Decides.{decides_true, decides_false}
 use Rattle.field.specs.Binary.{degree}
-use borrow.Author.Rules.{rules}
 use Rattle.exports.proofs.list_refusal.Goals.{Then-all_symbols}
 use Rattle.exports.proofs.list_refusal.Goals as goal
 

@@ -5,7 +5,6 @@ use Rattle.lists.specs.Answers.{Answers, Passes, answers-after, refused_first}
 use Rattle.field.specs.Calls.{modulus_numbered}
 use Rattle.field.specs.Checks.{modulus_checks, modulus_passed}
 use Rattle.exports.specs.Lists.{list_checks}
-use borrow.Author.Rules.{rules}
 use Rattle.exports.proofs.product_refusal.Goals.{Else-refusal-ne0}
 use Rattle.exports.proofs.product_refusal.Goals as goal
 

@@ -9,7 +9,6 @@ use Rattle.field.specs.Binary.{degree}
 use Rattle.field.specs.Products.{accumulated}
 use Rattle.exports.specs.Lists.{product_checks}
 use Rattle.exports.proofs.ListLaws.{Fine, fine}
-use borrow.Author.Rules.{rules}
 use Rattle.exports.proofs.proximity_products.Goals.{Start, Else-refusal-ne0}
 use Rattle.exports.proofs.proximity_products.Goals as goal
 

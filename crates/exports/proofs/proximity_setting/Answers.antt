@@ -1,5 +1,4 @@
 use Rattle.space.specs.Ready.{settled_answer}
-use borrow.Author.Rules.{rules}
 use Rattle.exports.proofs.proximity_setting.Goals as goal
 
 pub returns : goal.returns

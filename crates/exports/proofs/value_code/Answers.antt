@@ -1,6 +1,5 @@
 use mathlib.Core.Path.{sym, ap}
 use Rattle.exports.specs.Codes.{value_code}
-use borrow.Author.Rules.{rules}
 use Rattle.exports.proofs.value_code.Goals as goal
 
 pub returns-in-Refused : goal.returns-in-Refused

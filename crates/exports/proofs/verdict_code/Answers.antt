@@ -1,6 +1,5 @@
 use mathlib.Core.Path.{sym, ap}
 use Rattle.exports.specs.Codes.{verdict_code}
-use borrow.Author.Rules.{rules}
 use Rattle.exports.proofs.verdict_code.Goals as goal
 
 pub returns-in-Accept : goal.returns-in-Accept

@@ -1,6 +1,5 @@
 use mathlib.Core.Path.{sym, ap}
 use Rattle.exports.specs.Files.{made_code}
-use borrow.Author.Rules.{rules}
 use Rattle.exports.proofs.files.made_code.Goals as goal
 
 pub returns-in-Written : goal.returns-in-Written

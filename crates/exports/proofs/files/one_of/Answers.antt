@@ -2,7 +2,6 @@ use mathlib.Core.Path.{◌≡◌, refl, sym}
 use Prim.Native.Nat.{ℕ, zero, suc, ◌≤◌}
 use native.Mathlib.Omega.{arith}
 use Rattle.exports.specs.Files.{one_of}
-use borrow.Author.Rules.{rules}
 use Rattle.exports.proofs.files.one_of.Goals as goal
 
 last : (n a b c d e f : ℕ) → 5 ≤ n → one_of n a b c d e f ≡ f

@@ -1,6 +1,5 @@
 use mathlib.Core.Path.{ap, ◌∙◌}
 use Prim.Native.Nat.{ℕ}
-use borrow.Author.Rules.{rules}
 use Rattle.coins.specs.declared.Counts.{Counts}
 use Rattle.exports.specs.Files.{one_of}
 use Rattle.exports.proofs.files.proximity_total.Goals.{After-count-c}

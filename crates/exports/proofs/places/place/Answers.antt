@@ -3,7 +3,6 @@ use Prim.Native.Nat.{ℕ, zero, suc, ◌≤◌}
 use native.Mathlib.Omega.{arith}
 use Rattle.stored.specs.declared.Reading.{Reading}
 use Rattle.exports.specs.Places.{place_of}
-use borrow.Author.Rules.{rules}
 use Rattle.exports.proofs.places.place.Goals as goal
 
 last : (r : Reading) (n : ℕ) → 6 ≤ n → place_of r n ≡ r.setting.shift
