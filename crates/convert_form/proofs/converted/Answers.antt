@@ -1,5 +1,4 @@
 -- `convert_form::converted` is safe and ends.
--- the other form is within the limit
 use mathlib.Core.Path.{◌≡◌, sym}
 use mathlib.Core.List.{List, ◌++◌}
 use Prim.Native.Nat.{ℕ, ◌≤◌}
@@ -11,6 +10,7 @@ use borrow.Author.Rules.{rules}
 use Rattle.convert_form.proofs.converted.Goals.{Start, After-converted_length-found, After-room-out, After-convert}
 use Rattle.convert_form.proofs.converted.Goals as goal
 
+-- the other form is within the limit
 module _ (c : goal.After-room-out) where
   abbrev start : goal.Start
   start = (goal.at.After-room-out c).Start

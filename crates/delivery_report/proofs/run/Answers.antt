@@ -21,10 +21,6 @@ loop-bytes-init c = (c.window-bytes.ensures, omega arith)
 pub slice_bounds-read_full-count : goal.slice_bounds-read_full-count
 slice_bounds-read_full-count c = let h = (goal.at.slice_bounds-read_full-count c).At-loop-bytes in omega (arith, h.loop-bytes.invariant.0, h.loop-bytes.invariant.1)
 
--- GONE part-bytes-start : tie.Need-slice-bounds-bytes-start invariant-loop decreases-loop
--- part-bytes-start c = let h = c.before.before in omega (arith, h.loop.invariant.0, h.loop.invariant.1)
--- GONE part-bytes-end : tie.Need-slice-bounds-bytes-end invariant-loop decreases-loop
--- part-bytes-end c = let h = c.before.before in omega (arith, h.loop.invariant.0, h.loop.invariant.1)
 -- more bytes are held
 module _ (c : goal.After-read_full-n) where
   abbrev head : goal.At-loop-bytes

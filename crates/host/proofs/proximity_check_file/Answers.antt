@@ -1,5 +1,3 @@
---
--- the answer of `stored::check_file`
 use mathlib.Core.List.{List}
 use Prim.Native.Nat.{ℕ}
 use native.Mathlib.Omega.{arith}
@@ -8,6 +6,7 @@ use Rattle.host.proofs.Laws.{few_accepted, few_rejected, host_answer}
 use Rattle.host.proofs.proximity_check_file.Goals.{After-check_file, In-Reject}
 use Rattle.host.proofs.proximity_check_file.Goals as goal
 
+-- the answer of `stored::check_file`
 module _ (c : goal.After-check_file) where
   abbrev bytes : List ℕ
   bytes = c.args.file.now

@@ -1,5 +1,3 @@
---
--- the bytes written fit
 use mathlib.Core.Path.{sym, subst}
 use mathlib.Core.List.{List}
 use Prim.Native.Nat.{ℕ, ◌≤◌}
@@ -12,6 +10,7 @@ use borrow.Author.Rules.{rules}
 use Rattle.make_delivery.proofs.deliver.Goals.{After-make, In-Written}
 use Rattle.make_delivery.proofs.deliver.Goals as goal
 
+-- the bytes written fit
 module _ (c : goal.In-Written) where
   abbrev n : ℕ
   n = c.in-Written.n

@@ -1,5 +1,4 @@
 -- `setting_cases::show_value` meets its contract: a setting that passed has symbols for steps.
--- the setting passed
 use native.Mathlib.Omega.{arith}
 use Rattle.lists.specs.Decides.{decides_true}
 use Rattle.space.specs.Ready.{Ready, ready, steps-below}
@@ -7,6 +6,7 @@ use borrow.Author.Rules.{rules}
 use Rattle.setting_cases.proofs.show_value.Goals.{After-steps-1}
 use Rattle.setting_cases.proofs.show_value.Goals as goal
 
+-- the setting passed
 module _ (c : goal.After-steps-1) where
   passed : Ready c.args.modulus c.args.basis.now c.check-c.result.setting
   passed = ready _ _ _ _ c.check-c.ensures (omega (arith, c.if-n-ne0.false))

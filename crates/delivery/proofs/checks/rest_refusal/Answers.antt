@@ -1,5 +1,3 @@
---
--- the setting that was read
 use mathlib.Core.Path.{◌≡◌, sym, subst, transport}
 use mathlib.Core.List.{List}
 use Prim.Native.Nat.{ℕ, ◌≤◌}
@@ -18,6 +16,7 @@ use Rattle.delivery.specs.MessageLaws.{room_refused, coefficient-answer, layout-
 use Rattle.delivery.proofs.checks.rest_refusal.Goals.{Start, After-form_of-form, After-room_refusal-six}
 use Rattle.delivery.proofs.checks.rest_refusal.Goals as goal
 
+-- the setting that was read
 module _ (c : goal.Start) where
   abbrev t : List ℕ
   t = c.args.message.now

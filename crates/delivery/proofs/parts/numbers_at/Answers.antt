@@ -1,5 +1,3 @@
---
--- the part that is lent
 use mathlib.Core.Path.{◌≡◌, refl, sym, ◌∙◌}
 use mathlib.Core.Bool.{false}
 use mathlib.Core.List.{List}
@@ -11,6 +9,7 @@ use Rattle.stored.specs.Packed.{front_length, front-numbers}
 use Rattle.delivery.proofs.parts.numbers_at.Goals.{Start, After-no_numbers-out, After-numbers_at}
 use Rattle.delivery.proofs.parts.numbers_at.Goals as goal
 
+-- the part that is lent
 module _ (c : goal.After-no_numbers-out) where
   abbrev start : goal.Start
   start = (goal.at.After-no_numbers-out c).Start

@@ -1,5 +1,3 @@
---
--- the part that is lent
 use mathlib.Core.Path.{◌≡◌, sym, ◌∙◌, subst}
 use mathlib.Core.List.{List}
 use Prim.Native.Nat.{ℕ, ◌≤◌}
@@ -16,6 +14,7 @@ use Rattle.delivery.proofs.Laws.{length_back, front-back}
 use Rattle.delivery.proofs.parts.proof_of.Goals.{Start, After-no_scratch-scratch, After-prove}
 use Rattle.delivery.proofs.parts.proof_of.Goals as goal
 
+-- the part that is lent
 module _ (c : goal.After-no_scratch-scratch) where
   abbrev start : goal.Start
   start = (goal.at.After-no_scratch-scratch c).Start

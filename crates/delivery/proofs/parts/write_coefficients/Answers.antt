@@ -1,5 +1,3 @@
---
--- the word
 use mathlib.Core.Path.{◌≡◌, sym, ap, ◌∙◌, subst}
 use mathlib.Core.List.{List}
 use Prim.Native.Nat.{ℕ, ◌≤◌}
@@ -16,6 +14,7 @@ use Rattle.delivery.proofs.Laws.{at_most}
 use Rattle.delivery.proofs.parts.write_coefficients.Goals.{Start, After-word_of-word, After-proof_of-proof, After-write_form}
 use Rattle.delivery.proofs.parts.write_coefficients.Goals as goal
 
+-- the word
 module _ (c : goal.After-word_of-word) where
   abbrev start : goal.Start
   start = (goal.at.After-word_of-word c).Start

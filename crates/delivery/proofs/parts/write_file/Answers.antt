@@ -1,5 +1,3 @@
---
--- the setting that was read
 use mathlib.Core.Path.{◌≡◌, sym, ap, ◌∙◌, transport}
 use mathlib.Core.Bool.{false}
 use mathlib.Core.List.{List}
@@ -21,6 +19,7 @@ use Rattle.delivery.proofs.Laws.{at_most}
 use Rattle.delivery.proofs.parts.write_file.Goals.{Start, After-form_of-form, After-setting_size-at, After-numbers_at-coefficients, After-write_coefficients}
 use Rattle.delivery.proofs.parts.write_file.Goals as goal
 
+-- the setting that was read
 module _ (c : goal.Start) where
   abbrev t : List ℕ
   t = c.args.message.now

@@ -1,5 +1,3 @@
---
--- inside the list the default does not matter
 use mathlib.Core.Path.{◌≡◌, refl, sym}
 use mathlib.Core.List.{List, [], ◌∷◌}
 use Prim.Native.Nat.{ℕ, zero, suc, ◌+◌, ◌<◌}
@@ -7,6 +5,7 @@ use native.Mathlib.Omega.{arith}
 use lib.ListN.{length, get_or, get_or-eq_default}
 use Rattle.exports.proofs.files.byte_at.Goals as goal
 
+-- inside the list the default does not matter
 inside : (xs : List ℕ) (i d e : ℕ) → i < length xs → get_or xs i d ≡ get_or xs i e
 inside [] i d e h = absurd (omega arith)
 inside (x ∷ xs) zero d e h = refl

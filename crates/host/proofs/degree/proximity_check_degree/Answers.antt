@@ -1,5 +1,3 @@
---
--- the answer of `stored::check_file`
 use mathlib.Core.List.{List}
 use Prim.Native.Nat.{ℕ, ◌≤◌}
 use native.Mathlib.Omega.{arith}
@@ -10,6 +8,7 @@ use Rattle.host.proofs.Laws.{few_accepted, few_rejected, host_degree}
 use Rattle.host.proofs.degree.proximity_check_degree.Goals.{After-check_file, In-Reject}
 use Rattle.host.proofs.degree.proximity_check_degree.Goals as goal
 
+-- the answer of `stored::check_file`
 module _ (c : goal.After-check_file) where
   abbrev bytes : List ℕ
   bytes = c.args.file.now
