@@ -1,11 +1,11 @@
 -- What the public calls answer: checks 1, 2 and 9, and then a value.
-use Rattle.std.specs.Prelude.{◌≡◌, refl, ◌⊎◌, [], ◌∷◌, ◌++◌, ℕ, ◌^◌, ◌≤◌, ◌<◌}
+use Rattle.std.specs.Prelude.{◌≡◌, refl, ◌⊎◌, [], ◌∷◌, ◌++◌, ℕ, ◌^◌, ◌≤◌, ◌<◌, Result}
 use Rattle.std.proofs.Common.{inl, inr, lt_of_not-le, arith}
-use Rattle.lists.specs.Answers.{Checks, Answers, Passes, Refuses, Numbered, answers-after, passes-each}
+use Rattle.lists.specs.Answers.{Checks, Answers, Passes, Numbered, answers-after, passes-each}
 use Rattle.field.specs.Binary.{degree}
 use Rattle.field.specs.Checks.{modulus_checks, GoodModulus, modulus_passed}
-use Rattle.field.specs.declared.Value.{Value}
-use Rattle.field.specs.declared.Value.TheVariants.{Symbol, Refused}
+use Rattle.refusals.specs.Gives.{Gives}
+use Rattle.refusals.specs.declared.Refusal.{Refusal}
 
 -- a or b is not below 2^l
 abbrev pub NoSymbols : ℕ → ℕ → ℕ → Type 0
@@ -14,10 +14,9 @@ NoSymbols m a b = (2 ^ degree m ≤ a) ⊎ (2 ^ degree m ≤ b)
 abbrev pub field_checks : ℕ → ℕ → ℕ → Checks
 field_checks m a b = modulus_checks m ++ ((9, NoSymbols m a b) ∷ [])
 
--- the answer is v where the checks pass, and else the number of the first that refuses
-abbrev pub Told : Checks → ℕ → Value → Type 0
-Told cs v (Symbol x) = Passes cs × (x ≡ v)
-Told cs v (Refused n) = Refuses cs n
+-- the answer is v where the checks pass, and else the first that refuses
+abbrev pub Told : Checks → ℕ → Result ℕ Refusal → Type 0
+Told cs v = Gives cs (λ x. x ≡ v)
 
 -- the numbers of checks 1 and 2
 pub modulus_numbered : (m : ℕ) → Numbered (modulus_checks m)

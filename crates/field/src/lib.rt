@@ -7,12 +7,14 @@ pub mod inverse;
 pub mod modulus;
 pub mod products;
 
-ghost use Rattle.lists.specs.Answers.{Answers};
+ghost use Rattle.refusals.specs.Gives.{Gives};
 ghost use Rattle.field.specs.Binary.{◌⊕◌, product};
 ghost use Rattle.field.specs.Calls.{field_checks, Told};
+ghost use Rattle.field.specs.Checks.{FieldOf};
 
-use modulus::{field_of, is_symbol, modulus_refusal};
+use modulus::is_symbol;
 use products::mul;
+use refusals::Refusal;
 
 // A field by its modulus, and the modulus's degree.
 #[derive(Clone, Copy)]
@@ -21,55 +23,34 @@ pub struct Field {
     pub degree: u32,
 }
 
-// A symbol, or the number of a refusal.
-#[derive(Clone, Copy)]
-pub enum Value {
-    Symbol(u16),
-    Refused(u8),
-}
-
-// Checks 1, 2 and 9 of a modulus and two numbers: the number of the first that refuses, or 0.
-fn pair_refusal(modulus: u32, a: u16, b: u16) -> u8
-    ensures { Answers (field_checks modulus a b) result }
+// Checks 1, 2 and 9 of a modulus and two numbers: their field.
+fn check_pair(modulus: u32, a: u16, b: u16) -> Result<Field, Refusal>
+    ensures { Gives (field_checks modulus a b) (FieldOf modulus) result }
 {
-    let refusal = modulus_refusal(modulus);
-    if refusal != 0 {
-        return refusal;
+    let f = modulus::check(modulus)?;
+    if is_symbol(f, a) && is_symbol(f, b) {
+        return Ok(f);
     }
-    let f = field_of(modulus);
-    if is_symbol(f, a) {
-        if is_symbol(f, b) {
-            return 0;
-        }
-        return 9;
-    }
-    9
+    Err(Refusal::NoSymbol)
 }
 
 // The sum of two symbols.
 //
 // Ruled out: 3 for 3 + 3; refusal 9 for the modulus 15.
-pub fn sum(modulus: u32, a: u16, b: u16) -> Value
+pub fn sum(modulus: u32, a: u16, b: u16) -> Result<u16, Refusal>
     ensures { Told (field_checks modulus a b) (a ⊕ b) result }
 {
-    let refusal = pair_refusal(modulus, a, b);
-    if refusal != 0 {
-        return Value::Refused(refusal);
-    }
-    Value::Symbol(a ^ b)
+    check_pair(modulus, a, b)?;
+    Ok(a ^ b)
 }
 
 // The product of two symbols.
 //
 // Ruled out: 8, the product that is not reduced, for 2 times 4 modulo 11; a product where 8 is a
 // factor, which is no symbol modulo 11.
-pub fn product(modulus: u32, a: u16, b: u16) -> Value
+pub fn product(modulus: u32, a: u16, b: u16) -> Result<u16, Refusal>
     ensures { Told (field_checks modulus a b) (product modulus a b) result }
 {
-    let refusal = pair_refusal(modulus, a, b);
-    if refusal != 0 {
-        return Value::Refused(refusal);
-    }
-    let f = field_of(modulus);
-    Value::Symbol(mul(f, a, b))
+    let f = check_pair(modulus, a, b)?;
+    Ok(mul(f, a, b))
 }

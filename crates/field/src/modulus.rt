@@ -1,8 +1,8 @@
 // Checks of a modulus and of symbols.
 ghost use Rattle.std.specs.Prelude.{◌<◌, ◌≤◌, ◌^◌};
 ghost use Rattle.lists.specs.All.{Below};
-ghost use Rattle.lists.specs.Answers.{Answers};
 ghost use Rattle.lists.specs.Decides.{Decides};
+ghost use Rattle.refusals.specs.Gives.{Gives};
 ghost use Rattle.field.specs.Binary.{degree, Irreducible};
 ghost use Rattle.field.specs.Products.{Sized};
 ghost use Rattle.field.specs.Checks.{modulus_checks, FieldOf};
@@ -10,6 +10,7 @@ ghost use Rattle.field.specs.Ranges.{Largest};
 
 use super::Field;
 use super::division::{degree_of, divide};
+use refusals::Refusal;
 
 // Whether no polynomial of degree 1 to l/2 divides m. Where x does not, no multiple of x does.
 fn irreducible(m: u32) -> bool
@@ -31,21 +32,6 @@ fn irreducible(m: u32) -> bool
     true
 }
 
-// Checks 1 and 2 of a modulus: the number of the first that refuses, or 0.
-//
-// Ruled out: 0 for 21, which has no root; 1 for 15.
-pub fn modulus_refusal(m: u32) -> u8
-    ensures { Answers (modulus_checks m) result }
-{
-    if m < 8 || 131071 < m {
-        return 1;
-    }
-    if irreducible(m) {
-        return 0;
-    }
-    2
-}
-
 // The field of a modulus that passed checks 1 and 2.
 pub fn field_of(m: u32) -> Field
     requires { (8 ≤ m) × (m < 131072) }
@@ -55,6 +41,21 @@ pub fn field_of(m: u32) -> Field
         modulus: m,
         degree: degree_of(m),
     }
+}
+
+// Checks 1 and 2 of a modulus: its field.
+//
+// Ruled out: a field for 21, which has no root; refusal 1 for 15.
+pub fn check(m: u32) -> Result<Field, Refusal>
+    ensures { Gives (modulus_checks m) (FieldOf m) result }
+{
+    if m < 8 || 131071 < m {
+        return Err(Refusal::ModulusOutOfRange);
+    }
+    if irreducible(m) {
+        return Ok(field_of(m));
+    }
+    Err(Refusal::ModulusReducible)
 }
 
 // Whether a is below 2^l.
