@@ -1,7 +1,6 @@
 -- The tables of the first i basis elements, as the loop of `tabulate` makes them. Assumes nothing.
 use mathlib.Core.Path.{◌≡◌, sym, ap, ap₂, ◌∙◌, subst}
 use mathlib.Core.Logic.{◌≢◌, ◌⊎◌, inl, inr}
-use mathlib.Core.Bool.{true}
 use mathlib.Core.List.{List}
 use Prim.Native.Nat.{ℕ, zero, suc, ◌+◌, ◌*◌, ◌/◌, ◌%◌, ◌^◌, ◌≤◌, ◌<◌}
 use native.Mathlib.Decide.{dec_lt, ℕ_discrete}
@@ -20,8 +19,8 @@ use Rattle.poly.proofs.Span.{elem-zero, vanish-nil, vanish-zero}
 use Rattle.poly.specs.Novel.{W, step, image}
 use Rattle.poly.proofs.Novel.{W_suc, step_sym, elem-high, image-elem, image-zero, image-next, independent_iff}
 use Rattle.space.specs.Values.{value_at, image_at}
-use Rattle.space.specs.Setting.{images_of, steps_of, inverses_of, no_tables, tables_of, Tabled}
-use Rattle.space.specs.declared.Tables.{Tables}
+use Rattle.space.specs.Setting.{images_of, steps_of, inverses_of, tables_of, Tabled}
+use Rattle.std.specs.Prelude.{Some, None}
 use Rattle.space.specs.Sizes.{max_dim, cells}
 
 module _ (m : ℕ) (irr : Irreducible m) (bs : List ℕ) (few : length bs ≤ max_dim) (sb : Below (2 ^ degree m) bs) where
@@ -44,12 +43,8 @@ module _ (m : ℕ) (irr : Irreducible m) (bs : List ℕ) (few : length bs ≤ ma
     pub inverses : Upto 16 i inverse_of vs
     pub nonzero : (j : ℕ) → j < i → step K bs j ≢ 0
 
-  so_far-none : SoFar 0 (replicate cells 0) (replicate 16 0) (replicate 16 0)
+  pub so_far-none : SoFar 0 (replicate cells 0) (replicate 16 0) (replicate 16 0)
   so_far-none = record { rows = upto_none cells image_of; steps = upto_none 16 (step K bs); inverses = upto_none 16 inverse_of; nonzero = λ j h. absurd (omega arith) }
-
-  pub so_far-start : {t : Tables} → t ≡ no_tables → SoFar 0 t.images t.steps t.inverses
-  unfolding no_tables
-  so_far-start e = subst (λ (t : Tables). SoFar 0 t.images t.steps t.inverses) (sym e) so_far-none
 
   inverses_symbol : (j : ℕ) → inverse_of j < 2 ^ degree m
   inverses_symbol j = F.sym_inv (step_sym F bs sb j)
@@ -151,14 +146,10 @@ module _ (m : ℕ) (irr : Irreducible m) (bs : List ℕ) (few : length bs ≤ ma
     inverses_all = upto_all (λ j h l. ap (inverse m) (step_past j h) ∙ inverse-zero m irr) s.inverses
 
     -- all steps are there, so the basis is independent
-    pub tabled_all : Tabled m bs (record { independent = true; images = images; steps = steps; inverses = inverses })
+    pub tabled_all : Tabled m bs (Some (record { images = images; steps = steps; inverses = inverses }))
     unfolding tables_of
-    tabled_all =
-        inl (
-          (independent_iff F bs sb).1 s.nonzero,
-          λ i. record { independent = true; images = images-all i; steps = steps_all i; inverses = inverses_all i },
-        )
+    tabled_all = ((independent_iff F bs sb).1 s.nonzero, λ i. record { images = images-all i; steps = steps_all i; inverses = inverses_all i })
 
   -- a step that is 0
-  pub tabled_none : {t : Tables} (i : ℕ) → i < length bs → step K bs i ≡ 0 → t ≡ no_tables → Tabled m bs t
-  tabled_none i h z e = inr ((λ ind. (independent_iff F bs sb).0 ind i h z), e)
+  pub tabled_none : (i : ℕ) → i < length bs → step K bs i ≡ 0 → Tabled m bs None
+  tabled_none i h z ind = (independent_iff F bs sb).0 ind i h z

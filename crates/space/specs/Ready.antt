@@ -1,9 +1,9 @@
 -- What a caller of `check` knows: of a setting that passed, and of a refusal. Assumes nothing.
-use Rattle.std.specs.Prelude.{◌≡◌, refl, List, ◌++◌, ℕ, ◌^◌, ◌<◌, length}
-use Rattle.std.proofs.Common.{sym, subst, inl, inr, arith}
+use Rattle.std.specs.Prelude.{◌≡◌, refl, List, ◌++◌, ℕ, ◌^◌, ◌<◌, length, Result, Ok, Err}
+use Rattle.std.proofs.Common.{sym, subst, arith}
 use Rattle.std.proofs.Math.Path.{ap}
 use Rattle.lists.specs.All.{Below}
-use Rattle.lists.specs.Answers.{Checks, Answers, Passes, Numbered, answers-after, refused_first}
+use Rattle.lists.specs.Answers.{Checks, Answers, Passes, Refuses, Numbered}
 use Rattle.lists.specs.Tables.{All-tab}
 use Rattle.field.specs.Binary.{degree}
 use Rattle.field.specs.Checks.{degree_range}
@@ -12,11 +12,13 @@ use Rattle.field.specs.Products.{Sized}
 use Rattle.field.specs.Symbols.{symbols}
 use Rattle.poly.specs.Novel.{step}
 use Rattle.poly.proofs.Novel.{step_sym}
+use Rattle.refusals.specs.Gives.{gives-answer, gives_after, gives_first}
+use Rattle.refusals.specs.Refusal.{number, answer_of}
+use Rattle.refusals.specs.declared.Refusal.{Refusal}
 use Rattle.space.specs.Images.{Images}
-use Rattle.space.specs.Setting.{setting_checks, setting_of, no_setting, steps_of, inverses_of, SettledBy, Settled}
+use Rattle.space.specs.Setting.{setting_checks, setting_of, steps_of, inverses_of, SettledBy, Settled}
 use Rattle.space.specs.Sound.{Sound, sound, sound_field}
 use Rattle.space.specs.Table.{sound_images}
-use Rattle.space.specs.declared.Checked.{Checked}
 use Rattle.space.specs.declared.Setting.{Setting}
 
 -- s is the setting of the modulus m and the basis bs, which are sound with its shift
@@ -45,29 +47,23 @@ ready_setting {m} {bs} s =
 
 -- ---- one table of checks after another
 
-module _ (cs ds : Checks) (m : ℕ) (bs : List ℕ) (σ : ℕ) (c : Checked) where
-  pub settled_after : Numbered cs → Passes cs → SettledBy ds m bs σ c → SettledBy (cs ++ ds) m bs σ c
-  settled_after n p (inl (q, z, e)) = inl (answers-after cs ds 0 n p q, z, e)
-  settled_after n p (inr ((l, q), e)) = inr ((l, answers-after cs ds c.refusal n p q), e)
+module _ (cs ds : Checks) (m : ℕ) (bs : List ℕ) (σ : ℕ) where
+  pub settled_after : (r : Result Setting Refusal) → Numbered cs → Passes cs → SettledBy ds m bs σ r → SettledBy (cs ++ ds) m bs σ r
+  settled_after = gives_after (λ s. s ≡ setting_of m bs σ) cs ds
 
-  pub settled_first : (r : ℕ) → (r ≡ 0 → ⊥) → Answers cs r → c.refusal ≡ r → c.setting ≡ no_setting → SettledBy (cs ++ ds) m bs σ c
-  settled_first r n a z e =
-      let l : 0 < c.refusal = omega arith in
-      inr ((l, refused_first cs ds c.refusal l (subst (Answers cs) (sym z) a)), e)
+  pub settled_first : (e : Refusal) → Refuses cs (number e) → SettledBy (cs ++ ds) m bs σ (Err e)
+  settled_first = gives_first (λ s. s ≡ setting_of m bs σ) cs ds
 
-module _ (m : ℕ) (bs : List ℕ) (σ : ℕ) (c : Checked) where
-  pub ready : Settled m bs σ c → c.refusal ≡ 0 → Ready m bs c.setting
-  ready (inl (p, z, e)) h = subst (Ready m bs) (sym e) (ready_setting (sound m bs σ p))
-  ready (inr ((l, a), e)) h = absurd (omega arith)
+module _ (m : ℕ) (bs : List ℕ) (σ : ℕ) where
+  pub ready : (s : Setting) → Settled m bs σ (Ok s) → Ready m bs s
+  ready s (p, e) = subst (Ready m bs) (sym e) (ready_setting (sound m bs σ p))
 
-  pub settled_shift : Settled m bs σ c → c.refusal ≡ 0 → c.setting.shift ≡ σ
+  pub settled_shift : (s : Setting) → Settled m bs σ (Ok s) → s.shift ≡ σ
   unfolding setting_of
-  settled_shift (inl (p, z, e)) h = ap (λ (s : Setting). s.shift) e
-  settled_shift (inr ((l, a), e)) h = absurd (omega arith)
+  settled_shift s (p, e) = ap (λ (s : Setting). s.shift) e
 
-  pub settled_answer : Settled m bs σ c → Answers (setting_checks m bs σ) c.refusal
-  settled_answer (inl (p, z, e)) = subst (Answers (setting_checks m bs σ)) (sym z) p
-  settled_answer (inr ((l, a), e)) = a
+  pub settled_answer : (r : Result Setting Refusal) → Settled m bs σ r → Answers (setting_checks m bs σ) (answer_of r)
+  settled_answer = gives-answer (λ s. s ≡ setting_of m bs σ) (setting_checks m bs σ)
 
 -- the steps and their inverses are symbols
 module _ {m : ℕ} {bs : List ℕ} {s : Setting} (r : Ready m bs s) where

@@ -1,7 +1,9 @@
 -- Checks 1 to 5, and the numbers that a checked setting holds.
-use Rattle.std.specs.Prelude.{◌≡◌, ◌⊎◌, true, false, List, [], ◌∷◌, ◌++◌, ℕ, ◌/◌, ◌%◌, ◌^◌, ◌<◌, length, get_or, replicate}
+use Rattle.std.specs.Prelude.{◌≡◌, ◌⊎◌, Option, Some, None, Result, List, [], ◌∷◌, ◌++◌, ℕ, ◌/◌, ◌%◌, ◌^◌, ◌<◌, length, get_or}
 use Rattle.lists.specs.All.{Below}
-use Rattle.lists.specs.Answers.{Checks, Passes, Refuses}
+use Rattle.lists.specs.Answers.{Checks}
+use Rattle.refusals.specs.Gives.{Gives}
+use Rattle.refusals.specs.declared.Refusal.{Refusal}
 use Rattle.lists.specs.Tables.{tab}
 use Rattle.field.specs.Binary.{degree}
 use Rattle.field.specs.Checks.{modulus_checks}
@@ -11,7 +13,6 @@ use Rattle.poly.specs.Span.{Independent}
 use Rattle.poly.specs.Novel.{step, image}
 use Rattle.space.specs.declared.Tables.{Tables}
 use Rattle.space.specs.declared.Setting.{Setting}
-use Rattle.space.specs.declared.Checked.{Checked}
 use Rattle.space.specs.Sizes.{max_dim, cells}
 
 -- checks 3 and 4: the number of basis elements, the elements, and then the shift σ
@@ -44,16 +45,12 @@ module _ (K : Ops) (bs : List ℕ) where
   inverses_of = tab 16 (λ j. K.inv (step K bs j))
 
 unfoldable pub tables_of : Ops → List ℕ → Tables
-tables_of K bs = record { independent = true; images = images_of K bs; steps = steps_of K bs; inverses = inverses_of K bs }
+tables_of K bs = record { images = images_of K bs; steps = steps_of K bs; inverses = inverses_of K bs }
 
-abbrev zeros : ℕ → List ℕ
-zeros n = replicate n 0
-
-unfoldable pub no_tables : Tables
-no_tables = record { independent = false; images = zeros cells; steps = zeros 16; inverses = zeros 16 }
-
-abbrev pub Tabled : ℕ → List ℕ → Tables → Type 0
-Tabled m bs t = (Independent (symbols m) bs × (t ≡ tables_of (symbols m) bs)) ⊎ ((Independent (symbols m) bs → ⊥) × (t ≡ no_tables))
+-- the tables of an independent basis
+abbrev pub Tabled : ℕ → List ℕ → Option Tables → Type 0
+Tabled m bs (Some t) = Independent (symbols m) bs × (t ≡ tables_of (symbols m) bs)
+Tabled m bs None = Independent (symbols m) bs → ⊥
 
 -- ---- the setting
 
@@ -71,25 +68,13 @@ setting_of m bs σ =
       inverses = inverses_of (symbols m) bs;
     }
 
--- what a refused call gives beside the number
-unfoldable pub no_setting : Setting
-no_setting =
-    record {
-      field = record { modulus = 0; degree = 0 };
-      space = record { k = 0; images = zeros cells };
-      basis = zeros 16;
-      shift = 0;
-      steps = zeros 16;
-      inverses = zeros 16;
-    }
+-- the setting; or the first check that refuses
+abbrev pub SettledBy : Checks → ℕ → List ℕ → ℕ → Result Setting Refusal → Type 0
+SettledBy cs m bs σ = Gives cs (λ s. s ≡ setting_of m bs σ)
 
--- 0 and the setting; or the number of the first check that refuses, and no setting
-abbrev pub SettledBy : Checks → ℕ → List ℕ → ℕ → Checked → Type 0
-SettledBy cs m bs σ c = (Passes cs × (c.refusal ≡ 0) × (c.setting ≡ setting_of m bs σ)) ⊎ (Refuses cs c.refusal × (c.setting ≡ no_setting))
-
-abbrev pub Settled : ℕ → List ℕ → ℕ → Checked → Type 0
+abbrev pub Settled : ℕ → List ℕ → ℕ → Result Setting Refusal → Type 0
 Settled m bs σ = SettledBy (setting_checks m bs σ) m bs σ
 
 -- the same past checks 1 to 4
-abbrev pub Made : ℕ → List ℕ → ℕ → Checked → Type 0
+abbrev pub Made : ℕ → List ℕ → ℕ → Result Setting Refusal → Type 0
 Made m bs σ = SettledBy (span_checks m bs) m bs σ

@@ -8,15 +8,14 @@ use Rattle.field.specs.Binary.{degree, Irreducible}
 use Rattle.field.specs.Symbols.{symbols, symbols-field}
 use Rattle.poly.specs.Novel.{step}
 use Rattle.poly.proofs.Novel.{step_sym}
-use Rattle.space.proofs.Progress.{SoFar, so_far-start, so_far-next, tabled_none, tabled_all, steps-below, inverses_below, step_right}
+use Rattle.space.proofs.Progress.{SoFar, so_far-none, so_far-next, tabled_none, tabled_all, steps-below, inverses_below, step_right}
 use Rattle.space.specs.Sizes.{max_dim}
 use Rattle.space.proofs.tabulate.Goals.{Start, At-loop-i, After-fill_row-s}
 use Rattle.space.proofs.tabulate.Goals as goal
 
 pub loop-i-init : goal.loop-i-init
-loop-i-init c = let none = c.no_tables-none.ensures in
-    let a = c.args in
-    (none, omega arith, λ irr few sb. so_far-start a.f.modulus irr a.basis.now few sb none)
+loop-i-init c = let a = c.args in
+    (omega arith, λ irr few sb. so_far-none a.f.modulus irr a.basis.now few sb)
 
 -- what is known at the loop's head
 module _ (c : goal.At-loop-i) where
@@ -39,7 +38,7 @@ module _ (c : goal.At-loop-i) where
   sb = start.requires.3
 
   so_far : SoFar m irr bs few sb c.loop-i.i c.loop-i.images c.loop-i.steps c.loop-i.inverses
-  so_far = c.loop-i.invariant.2 irr few sb
+  so_far = c.loop-i.invariant.1 irr few sb
 
 -- the step that a turn finds
 module _ (c : goal.After-fill_row-s) where
@@ -62,7 +61,7 @@ fill_row-s-requires c = let here = (goal.at.fill_row-s-requires c).At-loop-i in
 pub returns-then-s-eq0 : goal.returns-then-s-eq0
 returns-then-s-eq0 c = let at = (goal.at.returns-then-s-eq0 c).After-fill_row-s in
     let here = head at in
-    tabled_none (m here) (irr here) (bs here) (few here) (sb here) here.loop-i.i (inside at) (sym (found at) ∙ c.if-s-eq0.true) here.loop-i.invariant.0
+    tabled_none (m here) (irr here) (bs here) (few here) (sb here) here.loop-i.i (inside at) (sym (found at) ∙ c.if-s-eq0.true)
 
 pub inverse-requires : goal.inverse-requires
 inverse-requires c = let at = (goal.at.inverse-requires c).After-fill_row-s in
@@ -71,9 +70,8 @@ inverse-requires c = let at = (goal.at.inverse-requires c).After-fill_row-s in
 pub loop-i-preserved : goal.loop-i-preserved
 loop-i-preserved c = let at = (goal.at.loop-i-preserved c).After-fill_row-s in
     let here = head at in (
-      here.loop-i.invariant.0,
       omega arith,
-      λ irr' few' sb'. so_far-next (m here) irr' (bs here) few' sb' (here.loop-i.invariant.2 irr' few' sb') (inside at) (λ z. c.if-s-eq0.false (found at ∙ z)) _ at.fill_row-s.ensures.1
+      λ irr' few' sb'. so_far-next (m here) irr' (bs here) few' sb' (here.loop-i.invariant.1 irr' few' sb') (inside at) (λ z. c.if-s-eq0.false (found at ∙ z)) _ at.fill_row-s.ensures.1
           at.fill_row-s.result c.inverse.result (found at) c.inverse.ensures,
     )
 
