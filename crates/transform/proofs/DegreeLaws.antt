@@ -32,7 +32,7 @@ use Rattle.poly.specs.Values.{table, images_of}
 use Rattle.space.specs.Images.{Images, upper_images, upper_image}
 use Rattle.transform.specs.Blocks.{InBlocks, block, BlocksInterpolated, EqualLanes}
 use Rattle.transform.specs.Degree.{Highest, BlocksJoined, ToldInLanes}
-use Rattle.transform.specs.declared.degree.DegreeTest.TheVariants.{Within, Above}
+use Rattle.std.specs.Prelude.{Some, None}
 use Rattle.transform.specs.Lanes.{image_at, lane_shift, Interpolated}
 use Rattle.transform.specs.Slices.{Transposed}
 use Rattle.transform.proofs.BlockLaws.{eight}
@@ -158,7 +158,7 @@ module _ (f : Field) (images : List ℕ) (k : ℕ) (xs : List ℕ) (pre : InBloc
     coefficients : (r : ℕ) → r < 8 → block k r new ≡ block_coeffs (symbols f.modulus) k b word r
     coefficients = block_coeffs_lem f.modulus pre.irreducible images k pre.low (take (2 ^ k) xs) new pre.symbols t b B I word lw front
 
-  pub told-within : answer ≡ true → ToldInLanes f.modulus images k xs Within
+  pub told-within : answer ≡ true → ToldInLanes f.modulus images k xs None
   told-within h b B I word lw e = decides_true (Codeword (symbols f.modulus) k b word) (decides b B I word lw e) h
 
   module _ (work : List ℕ) (ew : take (2 ^ k) work ≡ new) where
@@ -174,7 +174,7 @@ module _ (f : Field) (images : List ℕ) (k : ℕ) (xs : List ℕ) (pre : InBloc
           symbols = subst (Below (2 ^ degree f.modulus)) (sym ew) t.below;
         }
 
-    pub told-above : answer ≡ false → (ys : List ℕ) → BlocksJoined f.modulus images k work ys → (g : ℕ) → Highest (take (2 ^ k) ys) g → ToldInLanes f.modulus images k xs (Above g)
+    pub told-above : answer ≡ false → (ys : List ℕ) → BlocksJoined f.modulus images k work ys → (g : ℕ) → Highest (take (2 ^ k) ys) g → ToldInLanes f.modulus images k xs (Some g)
     told-above h ys j g top b B I word lw e = (
       none,
       novel_degree (symbols-field f.modulus pre.irreducible) k b B word lw (symbols-word b B I word lw e) g (subst (Low (suc g)) whole top.0)

@@ -13,13 +13,6 @@ use super::spans::no_lanes;
 use field::Field;
 use space::CELLS;
 
-// Whether the degree of a word is within the limit of a codeword; if not, the least degree.
-#[derive(Clone, Copy)]
-pub enum DegreeTest {
-    Within,
-    Above(usize),
-}
-
 // The place of the last number that is not 0; 0 where there is none.
 //
 // Ruled out: the place of the last zero; one place less.
@@ -57,10 +50,11 @@ fn join_blocks(f: Field, k: usize, images: &[u16; CELLS], blocks: [u16; 64]) -> 
     out
 }
 
-// The degree of a word of at most 64 symbols that is given in lanes.
+// The least degree of a polynomial through a word of at most 64 symbols that is given in lanes; none for a
+// codeword, whose degree is within the limit.
 //
 // Ruled out: the degree of another polynomial than one of the least degree; a degree for a codeword.
-pub fn least_degree(f: Field, k: usize, images: &[u16; CELLS], symbols: [u16; 64]) -> DegreeTest
+pub fn least_degree(f: Field, k: usize, images: &[u16; CELLS], symbols: [u16; 64]) -> Option<usize>
     requires { InBlocks f images.now k (take (2 ^ k) symbols) × (k ≤ 6) × (length symbols ≡ 64) × (length images.now ≡ cells) }
     ensures { ToldInLanes f.modulus images.now k symbols result }
 {
@@ -68,8 +62,8 @@ pub fn least_degree(f: Field, k: usize, images: &[u16; CELLS], symbols: [u16; 64
     let mut work = symbols;
     interpolate_blocks(f, images, k, &mut work[..n]);
     if equal_lanes(&work[..n]) {
-        return DegreeTest::Within;
+        return None;
     }
     let coefficients = join_blocks(f, k, images, work);
-    DegreeTest::Above(highest(&coefficients[..n]))
+    Some(highest(&coefficients[..n]))
 }
