@@ -1,5 +1,5 @@
 -- The answer on a word, from that on the line that the coin takes, and at last on a short word. Assumes nothing.
-use Rattle.std.specs.Prelude.{◌≡◌, List, [], ◌∷◌, map, ℕ, ◌*◌, ◌^◌, ◌≤◌, length}
+use Rattle.std.specs.Prelude.{◌≡◌, Result, List, [], ◌∷◌, map, ℕ, ◌*◌, ◌^◌, ◌≤◌, length}
 use Rattle.std.proofs.Common.{sym, ap, ◌∙◌, subst, arith}
 use Rattle.std.proofs.Math.Path.{transport}
 use Rattle.std.proofs.lemmas.List.{length-map}
@@ -23,13 +23,14 @@ use Rattle.proximity.specs.declared.Line.TheVariants.{Row, Column}
 use Rattle.proximity.specs.declared.Place.{Place}
 use Rattle.proximity.specs.declared.Place.TheVariants.{InWord}
 use Rattle.verifier.specs.Checker.{symbols_at, reads_of, Judged, OnCoin}
+use Rattle.refusals.specs.declared.Refusal.{Refusal}
 use Rattle.verifier.specs.declared.Verdict.{Verdict}
 
 -- past checks 1 to 8 the answer hangs on the symbols read, their number, their space and the sentence of acceptance alone
-abbrev pub By : Ops → Type 0 → ℕ → ℕ → List ℕ → List ℕ → Verdict → Type 0
+abbrev pub By : Ops → Type 0 → ℕ → ℕ → List ℕ → List ℕ → Result Verdict Refusal → Type 0
 By K A n m b xs = Judged ((9, (All K.Sym xs → ⊥)) ∷ []) K A n m b xs
 
-by-same : (K : Ops) {A B : Type 0} {n n' m m' : ℕ} {b b' xs ys : List ℕ} → A ≡ B → n ≡ n' → m ≡ m' → b ≡ b' → xs ≡ ys → (v : Verdict) → By K A n m b xs v → By K B n' m' b' ys v
+by-same : (K : Ops) {A B : Type 0} {n n' m m' : ℕ} {b b' xs ys : List ℕ} → A ≡ B → n ≡ n' → m ≡ m' → b ≡ b' → xs ≡ ys → (v : Result Verdict Refusal) → By K A n m b xs v → By K B n' m' b' ys v
 by-same K ea en em eb ex v = transport (λ i. By K (ea i) (en i) (em i) (eb i) (ex i) v)
 
 -- the symbols that a coin reads, by number
@@ -58,7 +59,7 @@ module _ (k : ℕ) (s : 7 ≤ k) (w π : List ℕ) (lw : length w ≡ 2 ^ k) (l�
     reads_line : reads_of (line_dim k l) (bits_left k coin) ≡ reads_of k coin
     reads_line = sym (ap length (positions_of_line k s coin l e) ∙ length-map (positions (dim (line_dim k l)) (bits_left k coin)) (line_place k l))
 
-    pub on_line : (K : Ops) (b : List ℕ) (v : Verdict) → OnCoin K (line_dim k l) (line_basis K k b l) (line_word k w π l) (line_proof k π l) (bits_left k coin) v → OnCoin K k b w π coin v
+    pub on_line : (K : Ops) (b : List ℕ) (v : Result Verdict Refusal) → OnCoin K (line_dim k l) (line_basis K k b l) (line_word k w π l) (line_proof k π l) (bits_left k coin) v → OnCoin K k b w π coin v
     on_line K b v =
         by-same K (sym (accepts_of_line k s K b w π coin l e)) reads_line (sym (leaf_dim_line k coin s l e)) (sym (leaf_basis_line k coin s K b l e)) symbols_line v
 
@@ -70,7 +71,7 @@ module _ (K : Ops) (k : ℕ) (s : k ≤ 6) (b w π : List ℕ) (lw : length w �
   reads_short : 2 ^ k ≡ reads_of k coin
   reads_short = sym (ap length (positions_leaf k s coin) ∙ length_tab (2 ^ k) InWord)
 
-  pub on-short : (v : Verdict) → By K (Codeword K k b w) (2 ^ k) k b w v → OnCoin K k b w π coin v
+  pub on-short : (v : Result Verdict Refusal) → By K (Codeword K k b w) (2 ^ k) k b w v → OnCoin K k b w π coin v
   on-short = by-same K (sym (accepts_leaf K k b w π s coin)) reads_short (sym (leaf_dim_leaf k coin s)) (sym (leaf_basis_leaf K k coin s b)) symbols-short
 
 -- the symbols that a coin reads are a short word over the space at which it ends
@@ -90,7 +91,7 @@ module _ (K : Ops) (k : ℕ) (b w π : List ℕ) (lw : length w ≡ 2 ^ k) (lπ 
   small : m ≤ 6
   small = leaf_small (dim k) coin
 
-  pub on_leaf : (ρ : List ℕ) (c : ℕ) (v : Verdict) → OnCoin K m basis read ρ c v → OnCoin K k b w π coin v
+  pub on_leaf : (ρ : List ℕ) (c : ℕ) (v : Result Verdict Refusal) → OnCoin K m basis read ρ c v → OnCoin K k b w π coin v
   on_leaf ρ c =
       by-same K (accepts_leaf K m basis read ρ small c ∙ sym (reads K (dim k) b w π lw lπ coin)) (sym (reads_short K m small basis read ρ long c) ∙ sym (length_positions (dim k) coin))
       (leaf_dim_leaf m c small) (leaf_basis_leaf K m c small basis) (sym (symbols-short K m small basis read ρ long c))

@@ -1,5 +1,5 @@
 -- The numbers that come with a reject: the bounds of the degree and of the dimension. Assumes nothing.
-use Rattle.std.specs.Prelude.{◌≡◌, List, ◌++◌, ℕ, ◌-◌, ◌^◌, ◌≤◌, length}
+use Rattle.std.specs.Prelude.{◌≡◌, Ok, List, ◌++◌, ℕ, ◌-◌, ◌^◌, ◌≤◌, length}
 use Rattle.std.proofs.Common.{sym, ap, ◌∙◌, subst, arith}
 use Rattle.lists.specs.Answers.{Passes, passes-each, numbered_append}
 use Rattle.field.specs.Symbols.{symbols}
@@ -23,7 +23,7 @@ pub record InBounds (r : Rejection) : Type 0 where
   pub six : r.dimension ≤ 6
   pub count : r.reads ≡ 2 ^ r.dimension
 
-module _ (m : ℕ) (bs : List ℕ) (σ : ℕ) (w π : List ℕ) (coin : ℕ) (r : Rejection) (t : Told m bs σ w π coin (Reject r)) where
+module _ (m : ℕ) (bs : List ℕ) (σ : ℕ) (w π : List ℕ) (coin : ℕ) (r : Rejection) (t : Told m bs σ w π coin (Ok (Reject r))) where
   both : Passes (setting_checks m bs σ ++ delivery_checks (length bs) (length w) (length π) coin)
   both =
       (passes-each (setting_checks m bs σ ++ delivery_checks (length bs) (length w) (length π) coin) (read_checks (symbols m) (length bs) w π coin)
@@ -40,12 +40,12 @@ module _ (m : ℕ) (bs : List ℕ) (σ : ℕ) (w π : List ℕ) (coin : ℕ) (r 
 
   pub told_bounds : InBounds r
   told_bounds =
-      let d = degree_range (sound_field setting) (dim (length bs)) bs w π setting.basis right.word right.proof coin r.degree t.2 t.3 in
-      let e : r.dimension ≡ leaf_dim (dim (length bs)) coin = t.4 in
+      let d = degree_range (sound_field setting) (dim (length bs)) bs w π setting.basis right.word right.proof coin r.degree t.1.1 t.1.2.0 in
+      let e : r.dimension ≡ leaf_dim (dim (length bs)) coin = t.1.2.1 in
       record {
         low = subst (λ (j : ℕ). 2 ^ (j - 3) ≤ r.degree) (sym e) d.0;
         high = subst (λ (j : ℕ). r.degree ≤ 2 ^ j - 1) (sym e) d.1;
         three = omega (arith, e, leaf_low (dim (length bs)) coin setting.low);
         six = omega (arith, e, leaf_small (dim (length bs)) coin);
-        count = t.1 ∙ length_positions (dim (length bs)) coin ∙ ap (λ (j : ℕ). 2 ^ j) (sym e);
+        count = t.1.0 ∙ length_positions (dim (length bs)) coin ∙ ap (λ (j : ℕ). 2 ^ j) (sym e);
       }

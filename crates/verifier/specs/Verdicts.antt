@@ -1,7 +1,7 @@
 -- The checker's answer from its stages: a refusal, or the answer on the coin. Assumes nothing.
-use Rattle.std.specs.Prelude.{◌≡◌, refl, ◌⊎◌, List, ◌++◌, ℕ, ◌^◌, ◌<◌, length}
+use Rattle.std.specs.Prelude.{◌≡◌, refl, ◌⊎◌, Result, Ok, Err, List, ◌++◌, ℕ, ◌^◌, ◌<◌, length}
 use Rattle.std.proofs.Common.{inl, inr, arith}
-use Rattle.lists.specs.Answers.{Checks, Answers, Passes, Numbered, answers-after, refused_first, numbered_append}
+use Rattle.lists.specs.Answers.{Checks, Answers, Passes, Refuses, Numbered, answers-after, refused_first, numbered_append}
 use Rattle.lists.specs.Decides.{equal_stable}
 use Rattle.field.specs.Laws.{Ops}
 use Rattle.field.specs.Symbols.{symbols}
@@ -9,14 +9,14 @@ use Rattle.space.specs.Setting.{setting_checks}
 use Rattle.space.specs.Sound.{setting_numbered}
 use Rattle.proximity.specs.Dim.{S, R}
 use Rattle.verifier.specs.Checker.{delivery_checks, read_checks, checker_checks, Answered, OnCoin, Told}
+use Rattle.refusals.specs.Refusal.{number}
+use Rattle.refusals.specs.declared.Refusal.{Refusal}
 use Rattle.verifier.specs.declared.Verdict.{Verdict}
-use Rattle.verifier.specs.declared.Verdict.TheVariants.{Accept, Reject, Refused}
 
 -- tables that give the same number give the same answer
-pub answered_alike : (cs ds : Checks) → ((r : ℕ) → Answers cs r → Answers ds r) → (K : Ops) (k : ℕ) (b w π : List ℕ) (coin : ℕ) (v : Verdict) → Answered cs K k b w π coin v → Answered ds K k b w π coin v
-answered_alike cs ds f K k b w π coin (Accept r) (p, e, a) = (f 0 p, e, a)
-answered_alike cs ds f K k b w π coin (Reject r) (p, e, a, g, d) = (f 0 p, e, a, g, d)
-answered_alike cs ds f K k b w π coin (Refused r) (l, a) = (l, f r a)
+pub answered_alike : (cs ds : Checks) → ((r : ℕ) → Answers cs r → Answers ds r) → (K : Ops) (k : ℕ) (b w π : List ℕ) (coin : ℕ) (v : Result Verdict Refusal) → Answered cs K k b w π coin v → Answered ds K k b w π coin v
+answered_alike cs ds f K k b w π coin (Ok v) (p, a) = (f 0 p, a)
+answered_alike cs ds f K k b w π coin (Err r) (l, a) = (l, f (number r) a)
 
 pub delivery_numbered : (k w p coin : ℕ) → Numbered (delivery_checks k w p coin)
 delivery_numbered k w p coin = (omega arith, (omega arith, tt))
@@ -46,17 +46,17 @@ module _ (m : ℕ) (bs : List ℕ) (σ : ℕ) (w π : List ℕ) (coin : ℕ) whe
   abbrev reading : Checks
   reading = read_checks (symbols m) (length bs) w π coin
 
-  pub told-setting : (n : ℕ) → 0 < n → Answers (setting_checks m bs σ) n → Told m bs σ w π coin (Refused n)
-  told-setting n l a = (l, refused_first (setting_checks m bs σ ++ delivery) reading n l (refused_first (setting_checks m bs σ) delivery n l a))
+  pub told-setting : (e : Refusal) → Refuses (setting_checks m bs σ) (number e) → Told m bs σ w π coin (Err e)
+  told-setting e (l, a) = (l, refused_first (setting_checks m bs σ ++ delivery) reading (number e) l (refused_first (setting_checks m bs σ) delivery (number e) l a))
 
   both : Passes (setting_checks m bs σ) → (n : ℕ) → Answers delivery n → Answers (setting_checks m bs σ ++ delivery) n
   both p n a = answers-after (setting_checks m bs σ) delivery n (setting_numbered m bs σ) p a
 
-  pub told-delivery : Passes (setting_checks m bs σ) → (n : ℕ) → 0 < n → Answers delivery n → Told m bs σ w π coin (Refused n)
-  told-delivery p n l a = (l, refused_first (setting_checks m bs σ ++ delivery) reading n l (both p n a))
+  pub told-delivery : Passes (setting_checks m bs σ) → (e : Refusal) → Refuses delivery (number e) → Told m bs σ w π coin (Err e)
+  told-delivery p e (l, a) = (l, refused_first (setting_checks m bs σ ++ delivery) reading (number e) l (both p (number e) a))
 
   after : Passes (setting_checks m bs σ) → Passes delivery → (n : ℕ) → Answers reading n → Answers (checker_checks m bs σ w π coin) n
   after p d n a = answers-after (setting_checks m bs σ ++ delivery) reading n (numbered_append (setting_checks m bs σ) delivery (setting_numbered m bs σ) (delivery_numbered (length bs) (length w) (length π) coin)) (both p 0 d) a
 
-  pub told_coin : Passes (setting_checks m bs σ) → Passes delivery → (v : Verdict) → OnCoin (symbols m) (length bs) bs w π coin v → Told m bs σ w π coin v
+  pub told_coin : Passes (setting_checks m bs σ) → Passes delivery → (v : Result Verdict Refusal) → OnCoin (symbols m) (length bs) bs w π coin v → Told m bs σ w π coin v
   told_coin p d = answered_alike reading (checker_checks m bs σ w π coin) (after p d) (symbols m) (length bs) bs w π coin

@@ -7,44 +7,41 @@ pub mod parts;
 
 ghost use Rattle.std.specs.Prelude.{◌≤◌};
 ghost use Rattle.lists.specs.Answers.{Answers};
+ghost use Rattle.refusals.specs.Refusal.{answer_of};
 ghost use Rattle.space.specs.Sizes.{max_dim};
 ghost use Rattle.verifier.specs.Checker.{delivery_checks, Told};
 
 use proximity::tables;
+use refusals::Refusal;
 
 // What a reject tells of the short word at which the coin ends: how many symbols were read, the least
 // degree of a polynomial through them, and the dimension of their space.
-#[derive(Clone, Copy)]
+#[derive(Clone, Copy, Debug, PartialEq, Eq)]
 pub struct Rejection {
     pub reads: usize,
     pub degree: usize,
     pub dimension: usize,
 }
 
-// The verdict with the number of symbols read, a reject with the degree behind it; or the number of
-// a refusal.
-#[derive(Clone, Copy)]
+// The verdict with the number of symbols read, a reject with the degree behind it.
+#[derive(Clone, Copy, Debug, PartialEq, Eq)]
 pub enum Verdict {
     Accept(usize),
     Reject(Rejection),
-    Refused(u8),
 }
 
 // Checks 6 and 8, of the lengths of word and proof and of the coin.
-fn delivery_refusal(k: usize, word: usize, proof: usize, coin: u64) -> u8
+fn check_delivery(k: usize, word: usize, proof: usize, coin: u64) -> Result<(), Refusal>
     requires { k ≤ max_dim }
-    ensures { Answers (delivery_checks k word proof coin) result }
+    ensures { Answers (delivery_checks k word proof coin) (answer_of result) }
 {
-    if word != 1usize << k {
-        return 6;
-    }
-    if proof != tables::proof_length(k) {
-        return 6;
+    if word != 1usize << k || proof != tables::proof_length(k) {
+        return Err(Refusal::Length);
     }
     if coin >> tables::coin_bits(k) != 0 {
-        return 8;
+        return Err(Refusal::NoCoin);
     }
-    0
+    Ok(())
 }
 
 // The checker for one coin: checks 1 to 6, 8, and 9 of the symbols that the coin reads; then the
@@ -66,20 +63,12 @@ pub fn check<'a>(
     word: &'a [u16],
     proof: &'a [u16],
     coin: u64,
-) -> Verdict
+) -> Result<Verdict, Refusal>
     ensures { Told modulus basis.now shift word.now proof.now coin result }
 {
-    let checked = space::check(modulus, basis, shift);
-    let n = checked.refusal;
-    if n != 0 {
-        return Verdict::Refused(n);
-    }
+    let s = space::check(modulus, basis, shift)?;
     let k = basis.len();
-    let n = delivery_refusal(k, word.len(), proof.len(), coin);
-    if n != 0 {
-        return Verdict::Refused(n);
-    }
-    let f = checked.setting.field;
-    let images = checked.setting.space.images;
-    parts::check_word(f, k, &images, word, proof, coin)
+    check_delivery(k, word.len(), proof.len(), coin)?;
+    let images = s.space.images;
+    parts::check_word(s.field, k, &images, word, proof, coin)
 }

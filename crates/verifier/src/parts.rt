@@ -12,30 +12,33 @@ ghost use Rattle.verifier.specs.Parts.{InSpace, Lent, joined, no_symbols};
 use super::{Rejection, Verdict, blocks, gather};
 use field::{Field, modulus};
 use proximity::{Line, lines, spaces};
+use refusals::Refusal;
 use space::CELLS;
-use transform::degree::{DegreeTest, least_degree};
+use transform::degree::least_degree;
 
 // The verdict on a short word that is given in lanes: all its symbols are read. A reject tells its
 // least degree and its dimension.
-fn short_verdict(f: Field, k: usize, images: &[u16; CELLS], read: [u16; 64]) -> Verdict
+fn short_verdict(
+    f: Field,
+    k: usize,
+    images: &[u16; CELLS],
+    read: [u16; 64],
+) -> Result<Verdict, Refusal>
     requires { InSpace f k images.now × (k ≤ 6) × (length read ≡ 64) }
     ensures { (b w : List ℕ) → Basis (symbols f.modulus) k b → Images (symbols f.modulus) b images.now → length w ≡ 2 ^ k → Transposed 8 (2 ^ (k - 3)) w no_symbols read → By (symbols f.modulus) (Codeword (symbols f.modulus) k b w) (2 ^ k) k b w result }
 {
-    if modulus::all_symbols(f, &read) {
-        let reads = 1usize << k;
-        return match least_degree(f, k, images, read) {
-            DegreeTest::Within => Verdict::Accept(reads),
-            DegreeTest::Above(degree) => {
-                let r = Rejection {
-                    reads,
-                    degree,
-                    dimension: k,
-                };
-                Verdict::Reject(r)
-            }
-        };
+    if !modulus::all_symbols(f, &read) {
+        return Err(Refusal::NoSymbol);
     }
-    Verdict::Refused(9)
+    let reads = 1usize << k;
+    match least_degree(f, k, images, read) {
+        None => Ok(Verdict::Accept(reads)),
+        Some(degree) => Ok(Verdict::Reject(Rejection {
+            reads,
+            degree,
+            dimension: k,
+        })),
+    }
 }
 
 // The first of a word's eight blocks.
@@ -67,7 +70,7 @@ pub fn check_parts<'a>(
     slot: usize,
     proof: &'a [u16],
     coin: u64,
-) -> Verdict
+) -> Result<Verdict, Refusal>
     requires { InSpace f k images.now × Lent k near.now far.now slot proof.now }
     ensures { (b : List ℕ) → Basis (symbols f.modulus) k b → Images (symbols f.modulus) b images.now → OnCoin (symbols f.modulus) k b (joined near.now far.now slot) proof.now coin result }
 {
@@ -111,7 +114,7 @@ pub fn check_word<'a>(
     word: &'a [u16],
     proof: &'a [u16],
     coin: u64,
-) -> Verdict
+) -> Result<Verdict, Refusal>
     requires { InSpace f k images.now × (length word.now ≡ 2 ^ k) × (length proof.now ≡ S k) }
     ensures { (b : List ℕ) → Basis (symbols f.modulus) k b → Images (symbols f.modulus) b images.now → OnCoin (symbols f.modulus) k b word.now proof.now coin result }
 {
