@@ -16,6 +16,8 @@ use Rattle.proximity.specs.Verifier.{leaf_basis}
 use Rattle.verifier.specs.Checker.{OnCoin, symbols_at, reads_of}
 use Rattle.verifier.specs.OnCoin.{on_leaf}
 use Rattle.verifier.specs.Parts.{InSpace}
+use Rattle.refusals.specs.declared.Refusal.{Refusal}
+use Rattle.std.specs.Prelude.{Result}
 use Rattle.verifier.specs.declared.Verdict.{Verdict}
 use Rattle.verifier.proofs.Lines.{Claim}
 
@@ -48,12 +50,12 @@ module _ (f : Field) (k : ℕ) (t : List ℕ) (S₀ : InSpace f k t) (w π : Lis
       }
 
   -- the answer on the symbols that the coin reads is that on the whole
-  outer_claim : (v : Verdict) (short ρ : List ℕ) (c : ℕ) → short ≡ symbols_at k w π coin → Claim f e u short ρ c v → Claim f k t w π coin v
+  outer_claim : (v : Result Verdict Refusal) (short ρ : List ℕ) (c : ℕ) → short ≡ symbols_at k w π coin → Claim f e u short ρ c v → Claim f k t w π coin v
   outer_claim v short ρ c es claim b B I =
       on_leaf (symbols f.modulus) k b w π lw lπ coin ρ c v
       (transport (λ i. OnCoin (symbols f.modulus) (table.dimension i) (leaf_basis (symbols f.modulus) (dim k) b coin) (es i) ρ c v)
       (claim (leaf_basis (symbols f.modulus) (dim k) b coin) (last-basis b B) (last-table b B I)))
 
   -- all of these at once
-  pub leaf_facts : (e ≤ 6) × (2 ^ e ≡ reads_of k coin) × InSpace f e u × ((v : Verdict) (short ρ : List ℕ) (c : ℕ) → short ≡ symbols_at k w π coin → Claim f e u short ρ c v → Claim f k t w π coin v)
+  pub leaf_facts : (e ≤ 6) × (2 ^ e ≡ reads_of k coin) × InSpace f e u × ((v : Result Verdict Refusal) (short ρ : List ℕ) (c : ℕ) → short ≡ symbols_at k w π coin → Claim f e u short ρ c v → Claim f k t w π coin v)
   leaf_facts = (small, count, last_space, outer_claim)

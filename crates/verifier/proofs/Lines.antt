@@ -18,12 +18,14 @@ use Rattle.proximity.specs.declared.Line.{Line}
 use Rattle.verifier.specs.Checker.{OnCoin}
 use Rattle.verifier.specs.OnCoin.{on_line}
 use Rattle.verifier.specs.Parts.{InSpace, Lent, joined}
+use Rattle.refusals.specs.declared.Refusal.{Refusal}
+use Rattle.std.specs.Prelude.{Result}
 use Rattle.verifier.specs.declared.Verdict.{Verdict}
 use Rattle.verifier.proofs.Laws.{length_joined}
 use Rattle.poly.specs.Blocks.{eighths}
 
 -- the answer on a word, whatever basis the table is of
-abbrev pub Claim : Field → ℕ → List ℕ → List ℕ → List ℕ → ℕ → Verdict → Type 0
+abbrev pub Claim : Field → ℕ → List ℕ → List ℕ → List ℕ → ℕ → Result Verdict Refusal → Type 0
 Claim f k t w π coin v = (b : List ℕ) → Basis (symbols f.modulus) k b → Images (symbols f.modulus) b t → OnCoin (symbols f.modulus) k b w π coin v
 
 module _ (f : Field) (k : ℕ) (t : List ℕ) (near far : List ℕ) (s : ℕ) (π : List ℕ) (coin : ℕ) (S₀ : InSpace f k t) (L : Lent k near far s π) where
@@ -71,7 +73,7 @@ module _ (f : Field) (k : ℕ) (t : List ℕ) (near far : List ℕ) (s : ℕ) (�
         })
 
     -- the answer on the line's word and proof is that on the whole
-    outer_claim : (v : Verdict) (u : List ℕ) → u ≡ line_word k w π line → Claim f m t' u ρ rest v → Claim f k t w π coin v
+    outer_claim : (v : Result Verdict Refusal) (u : List ℕ) → u ≡ line_word k w π line → Claim f m t' u ρ rest v → Claim f k t w π coin v
     outer_claim v u eu claim b B I =
         on_line k h w π word-long L.proof coin line taken (symbols f.modulus) b v
         (same (inner (line_basis (symbols f.modulus) k b line) (line_basis_lem k h (symbols-field f.modulus S₀.irreducible) b B line in_range)
@@ -92,5 +94,5 @@ module _ (f : Field) (k : ℕ) (t : List ℕ) (near far : List ℕ) (s : ℕ) (�
 
     -- all of these at once
     pub line_facts : InRange k line × (m ≡ line_dim k line) × (m < k) × (length ρ ≡ S m) × InSpace f m t'
-        × ((v : Verdict) (u : List ℕ) → u ≡ line_word k w π line → Claim f m t' u ρ rest v → Claim f k t w π coin v)
+        × ((v : Result Verdict Refusal) (u : List ℕ) → u ≡ line_word k w π line → Claim f m t' u ρ rest v → Claim f k t w π coin v)
     line_facts = (in_range, dimension, dimension_falls, inner-long, inner_space, outer_claim)

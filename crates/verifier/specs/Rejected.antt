@@ -40,8 +40,8 @@ module _ (m : ℕ) (bs : List ℕ) (σ : ℕ) (w π : List ℕ) (coin : ℕ) (r 
 
   pub told_bounds : InBounds r
   told_bounds =
-      let d = degree_range (sound_field setting) (dim (length bs)) bs w π setting.basis right.word right.proof coin r.degree t.1.1 t.1.2.0 in
-      let e : r.dimension ≡ leaf_dim (dim (length bs)) coin = t.1.2.1 in
+      let d = degree_range (sound_field setting) (dim (length bs)) bs w π setting.basis right.word right.proof coin r.degree t.1.1 t.1.2 in
+      let e : r.dimension ≡ leaf_dim (dim (length bs)) coin = t.1.3 in
       record {
         low = subst (λ (j : ℕ). 2 ^ (j - 3) ≤ r.degree) (sym e) d.0;
         high = subst (λ (j : ℕ). r.degree ≤ 2 ^ j - 1) (sym e) d.1;

@@ -16,6 +16,8 @@ use Rattle.proximity.specs.declared.Line.{Line}
 use Rattle.proximity.specs.declared.Line.TheVariants.{Row, Column}
 use Rattle.verifier.specs.Checker.{symbols_at, reads_of}
 use Rattle.verifier.specs.OnCoin.{on-short}
+use Rattle.refusals.specs.declared.Refusal.{Refusal}
+use Rattle.std.specs.Prelude.{Result}
 use Rattle.verifier.specs.declared.Verdict.{Verdict}
 use Rattle.verifier.specs.Parts.{InSpace, Lent, joined, no_symbols}
 use Rattle.verifier.proofs.Joins.{row-lent, row-joined, plain-lent, plain-joined}
@@ -87,7 +89,7 @@ module _ (t : ℕ) (c : goal.After-line_proof-inner t) (line : Line) (e : c.line
 
   facts : InRange k line × (c.line_dimension-m.result ≡ line_dim k line) × (c.line_dimension-m.result < k)
       × (length c.line_proof-inner.result.now ≡ S c.line_dimension-m.result) × InSpace start.args.f c.line_dimension-m.result c.line_images-t.result
-      × ((v : Verdict) (u : List ℕ) → u ≡ line_word k (word t start) (proof t start) line
+      × ((v : Result Verdict Refusal) (u : List ℕ) → u ≡ line_word k (word t start) (proof t start) line
       → Claim start.args.f c.line_dimension-m.result c.line_images-t.result u c.line_proof-inner.result.now c.rest_of-rest.result v
       → Claim start.args.f k start.args.images.now (word t start) (proof t start) start.args.coin v)
   facts =
@@ -199,7 +201,7 @@ module _ (t : ℕ) (c : goal.After-leaf_space-s t) where
   n = 1 * 2 ^ e % 18446744073709551616
 
   leaf : (e ≤ 6) × (2 ^ e ≡ reads_of m rest) × InSpace entry2.args.f e u
-      × ((v : Verdict) (short ρ : List ℕ) (i : ℕ) → short ≡ symbols_at m column-word column-proof rest → Claim entry2.args.f e u short ρ i v
+      × ((v : Result Verdict Refusal) (short ρ : List ℕ) (i : ℕ) → short ≡ symbols_at m column-word column-proof rest → Claim entry2.args.f e u short ρ i v
       → Claim entry2.args.f m lines2.line_images-t.result column-word column-proof rest v)
   leaf =
       leaf_facts entry2.args.f m lines2.line_images-t.result (facts t lines2 _ column-taken).4 column-word column-proof
