@@ -92,16 +92,14 @@ fn tabulate(f: Field, basis: &[u16]) -> Tables
     let mut images = none.images;
     let mut steps = none.steps;
     let mut inverses = none.inverses;
-    let mut i = 0;
-    while i < basis.len() {
-        let s = values::fill_row(f, i, basis[i], &steps, &inverses, &mut images);
+    for (i, x) in basis.iter().enumerate() {
+        let s = values::fill_row(f, i, *x, &steps, &inverses, &mut images);
         if s == 0 {
             return none;
         }
         steps[i] = s;
         inverses[i] = field::inverse::inverse(f, s);
         images[17 * i] = 1;
-        i += 1;
     }
     Tables {
         independent: true,
@@ -145,11 +143,7 @@ fn padded(basis: &[u16]) -> [u16; 16]
     ensures { result ≡ padded_of basis.now }
 {
     let mut out = [0u16; 16];
-    let mut i = 0;
-    while i < basis.len() {
-        out[i] = basis[i];
-        i += 1;
-    }
+    out[..basis.len()].copy_from_slice(basis);
     out
 }
 
