@@ -28,9 +28,8 @@ pub fn divide(v: u32, d: u32) -> Division
     let e = degree_of(d);
     let mut q: u32 = 0;
     let mut x = v;
-    let mut i = degree_of(v) + 1;
-    while e < i {
-        i -= 1;
+    let n = degree_of(v) + 1;
+    for i in (e..n).rev() {
         let top = (x >> i) % 2;
         q ^= top << (i - e);
         x ^= top * (d << (i - e));

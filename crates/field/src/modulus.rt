@@ -21,13 +21,11 @@ fn irreducible(m: u32) -> bool
         return false;
     }
     let end: u32 = 2 << (degree_of(m) / 2);
-    let mut d: u32 = 3;
-    while d < end {
+    for d in (3..end).step_by(2) {
         let t = divide(m, d);
         if t.remainder == 0 {
             return false;
         }
-        d += 2;
     }
     true
 }
@@ -71,13 +69,7 @@ pub fn is_symbol(f: Field, a: u16) -> bool
 fn largest(s: &[u16]) -> u16
     ensures { Largest s.now result }
 {
-    let mut top: u16 = 0;
-    let mut i = 0;
-    while i < s.len() {
-        top = if top < s[i] { s[i] } else { top };
-        i += 1;
-    }
-    top
+    s.iter().copied().max().unwrap_or(0)
 }
 
 // Whether every number of s is below 2^l.

@@ -9,11 +9,9 @@ pub fn element(basis: &[u16], i: usize) -> u16
     ensures { (m : ℕ) → result ≡ elem (symbols m) basis.now i }
 {
     let mut sum: u16 = 0;
-    let mut j = 0;
-    while j < basis.len() {
+    for (j, x) in basis.iter().enumerate() {
         let bit = ((i >> j) % 2) as u16;
-        sum ^= bit * basis[j];
-        j += 1;
+        sum ^= bit * *x;
     }
     sum
 }

@@ -74,16 +74,14 @@ fn tabulate(f: Field, basis: &[u16]) -> Option<Tables>
     let mut images = [0u16; CELLS];
     let mut steps = [0u16; 16];
     let mut inverses = [0u16; 16];
-    let mut i = 0;
-    while i < basis.len() {
-        let s = values::fill_row(f, i, basis[i], &steps, &inverses, &mut images);
+    for (i, x) in basis.iter().enumerate() {
+        let s = values::fill_row(f, i, *x, &steps, &inverses, &mut images);
         if s == 0 {
             return None;
         }
         steps[i] = s;
         inverses[i] = field::inverse::inverse(f, s);
         images[17 * i] = 1;
-        i += 1;
     }
     Some(Tables {
         images,
@@ -98,11 +96,7 @@ fn padded(basis: &[u16]) -> [u16; 16]
     ensures { result ≡ padded_of basis.now }
 {
     let mut out = [0u16; 16];
-    let mut i = 0;
-    while i < basis.len() {
-        out[i] = basis[i];
-        i += 1;
-    }
+    out[..basis.len()].copy_from_slice(basis);
     out
 }
 

@@ -12,10 +12,8 @@ pub fn upper_images(images: &[u16; CELLS], h: usize) -> [u16; CELLS]
 {
     let shift = 17 * h;
     let mut t = [0u16; CELLS];
-    let mut p = 0;
-    while p + shift < CELLS {
-        t[p] = images[p + shift];
-        p += 1;
+    for p in shift..CELLS {
+        t[p - shift] = images[p];
     }
     t
 }

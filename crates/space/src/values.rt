@@ -15,11 +15,8 @@ pub fn value(f: Field, steps: &[u16; 16], j: usize, x: u16) -> u16
     ensures { result ≡ value_at f.modulus steps.now j x }
 {
     let mut y = x;
-    let mut i = 0;
-    while i < j {
-        let s = steps[i];
-        y = field::products::mul(f, y, y ^ s);
-        i += 1;
+    for s in &steps[..j] {
+        y = field::products::mul(f, y, y ^ *s);
     }
     y
 }
@@ -38,13 +35,11 @@ pub fn fill_row(
     ensures { (result ≡ value_at f.modulus steps.now i x) × Filled (16 * i) i (image_at f.modulus steps.now inverses.now x) images.old images.new }
 {
     let mut y = x;
-    let mut j = 0;
-    while j < i {
+    for j in 0..i {
         let s = steps[j];
         let v = inverses[j];
         images[16 * i + j] = field::products::mul(f, y, v);
         y = field::products::mul(f, y, y ^ s);
-        j += 1;
     }
     y
 }

@@ -1,19 +1,15 @@
-use mathlib.Core.Path.{◌≡◌, refl}
-use native.Mathlib.Omega.{arith}
-use lib.ListN.{length, get_or-eq_default}
+use Rattle.std.proofs.Common.{◌≡◌, refl, ap, ℕ, zero, suc, ◌≤◌, List, [], ◌∷◌, ◌++◌, length, get_or, drop, replicate, arith}
+use Rattle.lists.specs.Tables.{tab}
 use Rattle.space.specs.Setting.{padded_of}
-use Rattle.lists.specs.Upto.{upto_none, upto_next, upto_all}
-use Rattle.space.proofs.padded.Goals.{At-loop-i}
 use Rattle.space.proofs.padded.Goals as goal
 
-pub loop-i-init : goal.loop-i-init
-loop-i-init c = (omega arith, upto_none 16 _)
-
-pub loop-i-preserved : goal.loop-i-preserved
-loop-i-preserved c = (omega arith, upto_next _ (omega arith) refl c.loop-i.invariant.1)
+-- a list with zeros up to n entries
+with_zeros : (n : ℕ) (xs : List ℕ) → length xs ≤ n → xs ++ drop (length xs) (replicate n 0) ≡ tab n (λ i. get_or xs i 0)
+with_zeros zero [] h = refl
+with_zeros (suc n) [] h = ap (λ (ys : List ℕ). 0 ∷ ys) (with_zeros n [] (omega arith))
+with_zeros zero (x ∷ xs) h = absurd (omega arith)
+with_zeros (suc n) (x ∷ xs) h = ap (λ (ys : List ℕ). x ∷ ys) (with_zeros n xs (omega arith))
 
 pub returns : goal.returns
 unfolding padded_of
-returns c = let here = (goal.at.returns c).At-loop-i in
-    let last : here.loop-i.i ≡ length here.args.basis.now = omega arith in
-    upto_all (λ j h l. get_or-eq_default here.args.basis.now 0 (omega arith)) here.loop-i.invariant.1
+returns c = rw c.copy_from_slice.ensures.after (with_zeros 16 c.args.basis.now (omega arith))

@@ -15,7 +15,7 @@ use Rattle.space.proofs.tabulate.Goals as goal
 
 pub loop-i-init : goal.loop-i-init
 loop-i-init c = let a = c.args in
-    (omega arith, λ irr few sb. so_far-none a.f.modulus irr a.basis.now few sb)
+    λ irr few sb. so_far-none a.f.modulus irr a.basis.now few sb
 
 -- what is known at the loop's head
 module _ (c : goal.At-loop-i) where
@@ -38,7 +38,7 @@ module _ (c : goal.At-loop-i) where
   sb = start.requires.3
 
   so_far : SoFar m irr bs few sb c.loop-i.i c.loop-i.images c.loop-i.steps c.loop-i.inverses
-  so_far = c.loop-i.invariant.1 irr few sb
+  so_far = c.loop-i.invariant irr few sb
 
 -- the step that a turn finds
 module _ (c : goal.After-fill_row-s) where
@@ -69,11 +69,9 @@ inverse-requires c = let at = (goal.at.inverse-requires c).After-fill_row-s in
 
 pub loop-i-preserved : goal.loop-i-preserved
 loop-i-preserved c = let at = (goal.at.loop-i-preserved c).After-fill_row-s in
-    let here = head at in (
-      omega arith,
-      λ irr' few' sb'. so_far-next (m here) irr' (bs here) few' sb' (here.loop-i.invariant.1 irr' few' sb') (inside at) (λ z. c.if-s-eq0.false (found at ∙ z)) _ at.fill_row-s.ensures.1
-          at.fill_row-s.result c.inverse.result (found at) c.inverse.ensures,
-    )
+    let here = head at in
+      λ irr' few' sb'. so_far-next (m here) irr' (bs here) few' sb' (here.loop-i.invariant irr' few' sb') (inside at) (λ z. c.if-s-eq0.false (found at ∙ z)) _ at.fill_row-s.ensures.1
+          at.fill_row-s.result c.inverse.result (found at) c.inverse.ensures
 
 pub returns : goal.returns
 returns c = let here = (goal.at.returns c).At-loop-i in

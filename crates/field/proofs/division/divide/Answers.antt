@@ -25,12 +25,12 @@ module _ (c : goal.In-loop-i) where
   low : j < 17
   low = omega arith
 
-pub overflow_add-i : goal.overflow_add-i
-overflow_add-i c = omega (arith, degree-less c.args.v 17 (omega arith) (omega arith))
+pub overflow_add-n : goal.overflow_add-n
+overflow_add-n c = omega (arith, degree-less c.args.v 17 (omega arith) (omega arith))
 
 pub loop-i-init : goal.loop-i-init
 loop-i-init c = let v = c.args.v in
-    let e = c.degree_of-i.ensures in (
+    let e = c.degree_of-n.ensures in (
       omega (arith, degree-less v 17 (omega arith) (omega arith)),
       rw e (degree-high v),
       sym (simp (clmul-zero-left, xor_zero_left)),

@@ -6,6 +6,3 @@ use Rattle.field.proofs.division.divide.Given as goal
 
 abbrev pub invariant-loop-i : goal.invariant-loop-i
 invariant-loop-i l = (l.i ≤ 17) × (l.x < 2 ^ l.i) × (l.v ≡ clmul l.q l.d ⊕ l.x)
-
-abbrev pub decreases-loop-i : goal.decreases-loop-i
-decreases-loop-i l = l.i

@@ -1,25 +1,14 @@
-use mathlib.Core.Logic.{inl, inr}
-use native.Mathlib.Omega.{arith}
-use lib.ListN.{drop_of_length-le}
-use Rattle.field.specs.Ranges.{largest_next}
-use Rattle.field.proofs.modulus.largest.Goals.{At-loop-i, then-top-s, else-top-s}
+use Rattle.std.proofs.Common.{rules, ◌<◌, ◌≤◌, ◌≡◌, ℕ, length, get_or, List, Option, None, Some, arith}
+use Rattle.std.specs.Option.{MatchOption, unwrap_or}
+use Rattle.lists.specs.All.{All-of, All-inside}
+use Rattle.field.specs.Ranges.{Largest}
 use Rattle.field.proofs.modulus.largest.Goals as goal
 
-pub loop-i-init : goal.loop-i-init
-loop-i-init c = (omega arith, λ n p. (λ b. b.1, λ b. (p, b)))
-
-pub loop-i-preserved : goal.loop-i-preserved
-loop-i-preserved c = let head = (goal.at.loop-i-preserved c).At-loop-i in (
-  omega arith,
-  largest_next head.args.s.now head.loop-i.i head.loop-i.top c.if-top-s.top (omega arith)
-      (elim c.if-top-s.branch [ then-top-s w ↦ omega arith | else-top-s w ↦ omega arith ])
-      (elim c.if-top-s.branch [ then-top-s w ↦ omega arith | else-top-s w ↦ omega arith ])
-      (elim c.if-top-s.branch [ then-top-s w ↦ inr (omega arith) | else-top-s w ↦ inl (omega arith) ])
-      head.loop-i.invariant.1,
-)
+-- an entry that no other exceeds, or 0 where there is none
+largest_of : (xs : List ℕ) (r : Option ℕ) → MatchOption r (length xs ≡ 0) (λ m. (k : ℕ) × (k < length xs) × (get_or xs k 0 ≡ m))
+    → MatchOption r (length xs ≡ 0) (λ m. (k : ℕ) → k < length xs → get_or xs k 0 ≤ m) → Largest xs (unwrap_or r 0)
+largest_of xs None e f n p = (λ h. All-of (λ x. x < n) xs 0 (λ i l. absurd (omega arith)), λ b. p)
+largest_of xs (Some m) (k, l, e) f n p = (λ h. All-of (λ x. x < n) xs 0 (λ i j. omega (arith, f i j)), λ b. omega (arith, All-inside (λ x. x < n) xs 0 b k l, e))
 
 pub returns : goal.returns
-returns c = let head = (goal.at.returns c).At-loop-i in
-    let xs = head.args.s.now in
-    λ n p. let w = head.loop-i.invariant.1 n p in
-    (λ h. w.0 (h, rw (drop_of_length-le xs {i = head.loop-i.i} (omega arith)) tt), λ b. (w.1 b).0)
+returns c = rw c.unwrap_or.ensures (largest_of c.args.s.now c.max.result (search rules) (search rules))

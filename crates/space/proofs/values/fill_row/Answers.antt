@@ -13,7 +13,7 @@ use Rattle.space.proofs.values.fill_row.Goals as goal
 
 pub loop-j-init : goal.loop-j-init
 loop-j-init c = let a = c.args in
-    (omega arith, sym (value_none a.f.modulus a.steps.now a.x), filled_none (16 * a.i) (image_at a.f.modulus a.steps.now a.inverses.now a.x) a.images.now)
+    (sym (value_none a.f.modulus a.steps.now a.x), filled_none (16 * a.i) (image_at a.f.modulus a.steps.now a.inverses.now a.x) a.images.now)
 
 -- y at the loop's head is a symbol
 module _ (c : goal.At-loop-j) where
@@ -24,7 +24,7 @@ module _ (c : goal.At-loop-j) where
   steps = c.args.steps.now
 
   y-symbol : c.loop-j.y < 2 ^ degree m
-  y-symbol = value-below m steps (sized_positive c.requires.sized.0) c.loop-j.j c.args.x c.loop-j.y c.requires.sized.2 c.loop-j.invariant.1
+  y-symbol = value-below m steps (sized_positive c.requires.sized.0) c.loop-j.j c.args.x c.loop-j.y c.requires.sized.2 c.loop-j.invariant.0
 
 pub mul-requires : goal.mul-requires
 mul-requires c = let here = (goal.at.mul-requires c).At-loop-j in
@@ -40,19 +40,18 @@ unfolding ◌⊕◌ image_at
 loop-j-preserved c = let here = (goal.at.loop-j-preserved c).At-loop-j in
     let a = here.args in
     let image : c.mul.result ≡ image_at (m here) (steps here) a.inverses.now a.x here.loop-j.j =
-    c.mul.ensures ∙ ap (λ (t : ℕ). product (m here) t (get_or a.inverses.now here.loop-j.j 0)) here.loop-j.invariant.1 in (
-      omega arith,
-      c.mul-y.ensures ∙ value-next (m here) (steps here) here.loop-j.j a.x here.loop-j.y here.loop-j.invariant.1,
-      filled_next c.mul.result (omega arith) image here.loop-j.invariant.2,
+    c.mul.ensures ∙ ap (λ (t : ℕ). product (m here) t (get_or a.inverses.now here.loop-j.j 0)) here.loop-j.invariant.0 in (
+      c.mul-y.ensures ∙ value-next (m here) (steps here) here.loop-j.j a.x here.loop-j.y here.loop-j.invariant.0,
+      filled_next c.mul.result (omega arith) image here.loop-j.invariant.1,
     )
 
 pub shape_of-images : goal.shape_of-images
-shape_of-images c = c.loop-j.invariant.2.kept
+shape_of-images c = c.loop-j.invariant.1.kept
 
 pub returns : goal.returns
 returns c = let here = (goal.at.returns c).At-loop-j in
     let a = here.args in
     let last : here.loop-j.j ≡ a.i = omega arith in (
-      here.loop-j.invariant.1 ∙ ap (λ (k : ℕ). value_at (m here) (steps here) k a.x) last,
-      subst (λ (k : ℕ). Filled (16 * a.i) k (image_at (m here) (steps here) a.inverses.now a.x) a.images.now here.loop-j.images) last here.loop-j.invariant.2,
+      here.loop-j.invariant.0 ∙ ap (λ (k : ℕ). value_at (m here) (steps here) k a.x) last,
+      subst (λ (k : ℕ). Filled (16 * a.i) k (image_at (m here) (steps here) a.inverses.now a.x) a.images.now here.loop-j.images) last here.loop-j.invariant.1,
     )
