@@ -2,17 +2,17 @@
 use mathlib.Core.Path.{◌≡◌, refl, sym, ap, ap₂, ◌∙◌, subst}
 use mathlib.Core.Logic.{inl, inr, ◌↔◌}
 use mathlib.Core.Bool.{Bool, true, false}
-use mathlib.Core.List.{List}
-use Prim.Native.Nat.{ℕ, zero, suc, ◌+◌, ◌-◌, ◌*◌, ◌≤◌, ◌<◌}
+use mathlib.Core.List.{List, ◌++◌}
+use Prim.Native.Nat.{ℕ, zero, suc, ◌+◌, ◌*◌, ◌≤◌, ◌<◌}
 use native.Mathlib.Decide.{dec_lt}
 use native.Mathlib.Nat.{add-zero}
 use native.Mathlib.Omega.{arith}
 use borrow.Author.Tests.{eqb-true, eqb-false}
 use lib.Bits.{bit_or, bit_xor, or_add_and, and_le_l, and_le_r, or_zero_l, xor_self}
 use lib.Dec.{eqb}
-use lib.ListN.{get_or, take, drop}
+use lib.ListN.{length, get_or, drop, get_or-append}
+use lib.Seq.{get_or-drop, drop-drop, drop_at}
 use Rattle.lists.specs.Decides.{Decides}
-use Rattle.lists.specs.Overwrite.{get_or_cut}
 use Rattle.lists.specs.Lanes.{lane, get_or_lane, lane-is, length_lane}
 use Rattle.poly.specs.Span.{xor-zero}
 use Rattle.transform.specs.Blocks.{EqualLanes}
@@ -57,22 +57,19 @@ list_alike v = (
 abbrev pub AlikeTo : ℕ → List ℕ → Type 0
 AlikeTo o xs = (i r : ℕ) → i < o → r < 8 → get_or xs (i * 8 + r) 0 ≡ get_or xs (i * 8) 0
 
-pub alike_none : (xs : List ℕ) → (◌≡◌ {A = ℕ} 0 0) ↔ AlikeTo 0 xs
-alike_none xs = (λ e i r h l. absurd (omega arith), λ h. refl)
-
--- one more list, as the code cuts it
-pub alike_next : (xs : List ℕ) (o bad d : ℕ) → (bad ≡ 0) ↔ AlikeTo o xs
-    → (d ≡ 0) ↔ ((r : ℕ) → r < 8 → get_or (take (o * 8 + 8 - o * 8) (drop (o * 8) xs)) r 0 ≡ get_or (take (o * 8 + 8 - o * 8) (drop (o * 8) xs)) 0 0)
+-- one more list
+pub alike_next : (xs list rest : List ℕ) (o bad d : ℕ) → drop (o * 8) xs ≡ list ++ rest → length list ≡ 8 → (bad ≡ 0) ↔ AlikeTo o xs
+    → (d ≡ 0) ↔ ((r : ℕ) → r < 8 → get_or list r 0 ≡ get_or list 0 0)
     → (bit_or bad d ≡ 0) ↔ AlikeTo (o + 1) xs
-alike_next xs o bad d inv new = (
+alike_next xs list rest o bad d es el inv new = (
   λ e i r h l. let w = (or-zero bad d).0 e in at w i r h l (dec_lt i o),
   λ h. (or-zero bad d).1 (inv.1 (λ i r p l. h i r (omega arith) l), new.1 (λ r l. cut r l ∙ h o r (omega arith) l ∙ first)),
 )
   where
-    cut : (r : ℕ) → r < 8 → get_or (take (o * 8 + 8 - o * 8) (drop (o * 8) xs)) r 0 ≡ get_or xs (o * 8 + r) 0
-    cut r h = get_or_cut (o * 8) 8 xs r h
+    cut : (r : ℕ) → r < 8 → get_or list r 0 ≡ get_or xs (o * 8 + r) 0
+    cut r h = sym (get_or-append list rest 0 r (omega arith)) ∙ ap (λ (t : List ℕ). get_or t r 0) (sym es) ∙ get_or-drop (o * 8) xs r 0
 
-    first : get_or xs (o * 8) 0 ≡ get_or (take (o * 8 + 8 - o * 8) (drop (o * 8) xs)) 0 0
+    first : get_or xs (o * 8) 0 ≡ get_or list 0 0
     first = ap (λ (i : ℕ). get_or xs i 0) (sym (add-zero (o * 8))) ∙ sym (cut 0 (omega arith))
 
     at : (bad ≡ 0) × (d ≡ 0) → (i r : ℕ) → i < o + 1 → r < 8 → Dec (i < o) → get_or xs (i * 8 + r) 0 ≡ get_or xs (i * 8) 0
@@ -80,6 +77,11 @@ alike_next xs o bad d inv new = (
     at w i r h l (no p) =
         let same : o ≡ i = omega arith in
         subst (λ (k : ℕ). get_or xs (k * 8 + r) 0 ≡ get_or xs (k * 8) 0) same (sym (cut r l) ∙ new.0 w.1 r l ∙ sym first)
+
+-- what follows that list
+pub alike_rest : (xs list rest : List ℕ) (o : ℕ) → drop (o * 8) xs ≡ list ++ rest → length list ≡ 8 → rest ≡ drop ((o + 1) * 8) xs
+alike_rest xs list rest o es el =
+    sym (drop_at list rest 8 el) ∙ ap (drop 8) (sym es) ∙ drop-drop 8 (o * 8) xs ∙ ap (λ (i : ℕ). drop i xs) {x = o * 8 + 8} {y = (o + 1) * 8} (omega arith)
 
 -- the lanes
 alike_lanes : (n : ℕ) (xs : List ℕ) → AlikeTo n xs ↔ EqualLanes n xs

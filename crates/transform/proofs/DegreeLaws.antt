@@ -1,6 +1,5 @@
 -- The degree of a short word, from the coefficients of its blocks. Assumes nothing.
 use mathlib.Core.Path.{◌≡◌, refl, sym, ap, ap₂, ◌∙◌, subst}
-use mathlib.Core.Logic.{◌≢◌}
 use mathlib.Core.Bool.{Bool, true, false}
 use mathlib.Core.List.{List, map}
 use Prim.Native.Nat.{ℕ, suc, ◌+◌, ◌-◌, ◌*◌, ◌/◌, ◌^◌, ◌≤◌, ◌<◌}
@@ -19,7 +18,7 @@ use Rattle.field.specs.Symbols.{symbols, symbols-field}
 use Rattle.field.specs.declared.Field.{Field}
 use Rattle.poly.specs.Blocks.{eighths, block_shift, block_coeffs}
 use Rattle.poly.specs.Codeword.{Basis, Codeword}
-use Rattle.poly.specs.Coefficients.{coeff, Low, low-le, low-less}
+use Rattle.poly.specs.Coefficients.{coeff, Low}
 use Rattle.poly.specs.Joined.{block_coefficients}
 use Rattle.poly.proofs.Joined.{joined}
 use Rattle.poly.specs.Novel.{image}
@@ -37,17 +36,6 @@ use Rattle.transform.specs.Lanes.{image_at, lane_shift, Interpolated}
 use Rattle.transform.specs.Slices.{Transposed}
 use Rattle.transform.proofs.BlockLaws.{eight}
 use Rattle.transform.proofs.CodewordTest.{eighth, word_below, block_coeffs_lem, codeword_test}
-
--- ---- the last number that is not 0, from the end
-
-pub highest_next : (xs : List ℕ) (n : ℕ) → 0 < n → Low n xs → coeff xs (n - 1) ≡ 0 → Low (n - 1) xs
-highest_next xs n h l = low-less (n - 1) xs (low-le n (suc (n - 1)) xs l (omega arith))
-
-pub highest_here : (xs : List ℕ) (n : ℕ) → 0 < n → Low n xs → coeff xs (n - 1) ≢ 0 → Highest xs (n - 1)
-highest_here xs n h l d = (low-le n (suc (n - 1)) xs l (omega arith), λ e. absurd (d e))
-
-pub highest_first : (xs : List ℕ) (n : ℕ) → n ≤ 1 → Low n xs → Highest xs 0
-highest_first xs n h l = let one : Low 1 xs = low-le n 1 xs l h in (one, low-less 0 xs one)
 
 -- ---- the coefficients of a word, from those of its blocks
 

@@ -2,17 +2,16 @@
 use mathlib.Core.Path.{◌≡◌, refl, sym, ap, ap₂, ◌∙◌}
 use mathlib.Core.Logic.{inl, inr}
 use mathlib.Core.List.{List}
-use Prim.Native.Nat.{ℕ, ◌+◌, ◌*◌, ◌/◌, ◌^◌, ◌≤◌, ◌<◌}
+use Prim.Native.Nat.{ℕ, ◌+◌, ◌*◌, ◌/◌, ◌≤◌, ◌<◌}
 use native.Mathlib.Decide.{dec_lt}
 use native.Mathlib.Nat.{add-mul}
 use native.Mathlib.Omega.{arith}
 use lib.ListN.{length, get_or}
-use Rattle.lists.specs.All.{Below}
 use Rattle.lists.specs.Overwrite.{mul_next}
 use Rattle.lists.specs.Stretch.{Apart}
 use Rattle.lists.specs.Tables.{part-fits}
 use Rattle.lists.specs.Lanes.{place-fits}
-use Rattle.field.specs.Binary.{◌⊕◌, degree, product}
+use Rattle.field.specs.Binary.{◌⊕◌, product}
 use Rattle.field.specs.Products.{accumulated}
 use Rattle.field.proofs.Accumulate.{length_accumulated, accumulated-at, accumulated_outside, accumulated-below}
 use Rattle.transform.specs.Layers.{Scaled}
@@ -27,14 +26,11 @@ module _ (q c : ℕ) (ts : List ℕ) (k : ℕ) (old : List ℕ) (lx : length old
   pub half_length : length old / 2 ≡ k * s
   half_length = omega (arith, two_halves)
 
-  pub scaled_none : Below (2 ^ degree q) old → Scaled q c ts k 0 old old
-  scaled_none b = record { kept = refl; below = b; low = λ o r h l. absurd (omega arith); high = λ p h. refl }
-
   module _ (j p half : ℕ) (v : List ℕ) (h : j < k) (ep : p ≡ j * s) (eh : half ≡ k * s) (sv : Scaled q c ts k j old v) where
     inside : j * s + s ≤ k * s
     inside = part-fits {i = j} {n = k} s h
 
-    pub turn-apart : Apart s (half + p) p (length v)
+    turn-apart : Apart s (half + p) p (length v)
     turn-apart =
         record {
           first = omega (arith, two_halves, sv.kept, inside);

@@ -20,7 +20,7 @@ use Rattle.poly.proofs.Novel.{elem-high}
 use Rattle.space.specs.Sizes.{lane_cells}
 use Rattle.transform.proofs.Halves.{next_pow}
 use Rattle.transform.specs.Lanes.{image_at}
-use Rattle.transform.specs.Spans.{Zeros, image_list, SpanList, SpanLanes}
+use Rattle.transform.specs.Spans.{image_list, SpanList, SpanLanes}
 
 -- ---- one list
 
@@ -56,9 +56,6 @@ module _ (images : List ℕ) (from c j : ℕ) where
 -- ---- the lists one after the other
 
 module _ (images : List ℕ) (from c : ℕ) where
-  pub lanes_none : (xs : List ℕ) → Zeros lane_cells xs → SpanLanes images from c 0 xs
-  lanes_none xs z = record { count = z.count; inside = λ j h. absurd (omega arith); outside = λ p h. z.each p }
-
   -- one more list, as the code puts it
   pub lanes_next : (m n : ℕ) (v ys : List ℕ) → n ≡ 2 ^ c → m * n + n ≤ lane_cells → SpanLanes images from c m v → length ys ≡ n → SpanList images from c m (2 ^ c) ys
       → SpanLanes images from c (m + 1) (put_mid (m * n) (m * n + n - m * n) v ys)

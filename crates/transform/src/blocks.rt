@@ -54,12 +54,9 @@ fn list_differs(v: &[u16]) -> u16
 pub fn equal_lanes(values: &[u16]) -> bool
     ensures { Decides result (EqualLanes (length values.now / 8) values.now) }
 {
-    let n = values.len() / 8;
     let mut bad: u16 = 0;
-    let mut o = 0;
-    while o < n {
-        bad |= list_differs(&values[o * 8..o * 8 + 8]);
-        o += 1;
+    for list in values.chunks_exact(8) {
+        bad |= list_differs(list);
     }
     bad == 0
 }

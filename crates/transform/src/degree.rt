@@ -19,14 +19,7 @@ use space::CELLS;
 pub fn highest(values: &[u16]) -> usize
     ensures { Highest values.now result }
 {
-    let mut n = values.len();
-    while 1 < n {
-        if values[n - 1] != 0 {
-            return n - 1;
-        }
-        n -= 1;
-    }
-    0
+    values.iter().rposition(|x| *x != 0).unwrap_or(0)
 }
 
 fn no_symbols() -> [u16; 64]

@@ -18,12 +18,9 @@ fn add_scaled(f: Field, t: &[u16], c: u16, k: usize, values: &mut [u16])
     ensures { Scaled f.modulus c t.now k k values.old values.new }
 {
     let n = values.len() / 2;
-    let mut p = 0;
-    let mut j = 0;
-    while j < k {
+    for j in 0..k {
+        let p = j * t.len();
         field::products::add_products(f, t, c, n + p, p, values);
-        p += t.len();
-        j += 1;
     }
 }
 
@@ -32,10 +29,8 @@ fn add_low(values: &mut [u16])
     ensures { LowAdded (length values.old / 2) values.old values.new }
 {
     let n = values.len() / 2;
-    let mut i = 0;
-    while i < n {
+    for i in 0..n {
         values[n + i] ^= values[i];
-        i += 1;
     }
 }
 
@@ -70,10 +65,8 @@ pub fn shifted(images: &[u16; CELLS], i: usize, x: [u16; 16]) -> [u16; 16]
     ensures { Shifted images.now i x result }
 {
     let mut out = x;
-    let mut j = 0;
-    while j < 16 {
-        out[j] ^= images[16 * i + j];
-        j += 1;
+    for (j, y) in out.iter_mut().enumerate() {
+        *y ^= images[16 * i + j];
     }
     out
 }

@@ -9,11 +9,7 @@ pub fn copy(src: &[u16], dst: &mut [u16])
     requires { length src.now ≤ length dst.old }
     ensures { dst.new ≡ src.now ++ drop (length src.now) dst.old }
 {
-    let mut i = 0;
-    while i < src.len() {
-        dst[i] = src[i];
-        i += 1;
-    }
+    dst[..src.len()].copy_from_slice(src);
 }
 
 // Copies the first n numbers after themselves.
@@ -21,22 +17,14 @@ pub fn copy_up(n: usize, values: &mut [u16])
     requires { n + n ≤ length values.old }
     ensures { values.new ≡ take n values.old ++ (take n values.old ++ drop (n + n) values.old) }
 {
-    let mut i = 0;
-    while i < n {
-        values[n + i] = values[i];
-        i += 1;
-    }
+    values.copy_within(..n, n);
 }
 
 // Sets all of values to 0.
 pub fn clear(values: &mut [u16])
     ensures { values.new ≡ replicate (length values.old) 0 }
 {
-    let mut i = 0;
-    while i < values.len() {
-        values[i] = 0;
-        i += 1;
-    }
+    values.fill(0);
 }
 
 // Writes a list as lane r of lists of `rows` numbers each.
@@ -44,10 +32,8 @@ pub fn to_lane(from: &[u16], rows: usize, r: usize, to: &mut [u16])
     requires { (r < rows) × (length from.now * rows ≤ length to.old) }
     ensures { Strided rows r (length from.now) (λ (o : ℕ). get_or from.now o 0) to.old to.new }
 {
-    let mut o = 0;
-    while o < from.len() {
-        to[o * rows + r] = from[o];
-        o += 1;
+    for (o, x) in from.iter().enumerate() {
+        to[o * rows + r] = *x;
     }
 }
 
@@ -56,10 +42,8 @@ pub fn from_lane(from: &[u16], rows: usize, r: usize, to: &mut [u16])
     requires { (r < rows) × (length to.old * rows ≤ length from.now) }
     ensures { to.new ≡ lane rows r (length to.old) from.now }
 {
-    let mut o = 0;
-    while o < to.len() {
-        to[o] = from[o * rows + r];
-        o += 1;
+    for (o, x) in to.iter_mut().enumerate() {
+        *x = from[o * rows + r];
     }
 }
 
@@ -68,9 +52,7 @@ pub fn transpose(from: &[u16], rows: usize, size: usize, to: &mut [u16])
     requires { (rows * size ≤ length from.now) × (rows * size ≤ length to.old) }
     ensures { Transposed rows size from.now to.old to.new }
 {
-    let mut r = 0;
-    while r < rows {
+    for r in 0..rows {
         to_lane(&from[r * size..r * size + size], rows, r, to);
-        r += 1;
     }
 }

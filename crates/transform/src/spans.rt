@@ -19,10 +19,8 @@ fn add_element(x: u16, n: usize, list: &mut [u16])
     requires { n + n ≤ length list.old }
     ensures { Filled n n (λ (e : ℕ). get_or list.old e 0 ⊕ x) list.old list.new }
 {
-    let mut e = 0;
-    while e < n {
+    for e in 0..n {
         list[n + e] = list[e] ^ x;
-        e += 1;
     }
 }
 
@@ -32,10 +30,8 @@ fn span_list(images: &[u16; CELLS], from: usize, c: usize, j: usize, list: &mut 
     ensures { SpanList images.now from c j (2 ^ c) list.new }
 {
     list[0] = 0;
-    let mut i = 0;
-    while i < c {
+    for i in 0..c {
         add_element(images[16 * (from + i) + j], 1usize << i, list);
-        i += 1;
     }
 }
 
@@ -47,10 +43,8 @@ pub fn span_lanes(images: &[u16; CELLS], from: usize, c: usize, m: usize) -> [u1
 {
     let mut lanes = no_lanes();
     let n = 1usize << c;
-    let mut j = 0;
-    while j < m {
+    for j in 0..m {
         span_list(images, from, c, j, &mut lanes[j * n..j * n + n]);
-        j += 1;
     }
     lanes
 }

@@ -1,27 +1,33 @@
-use mathlib.Core.Path.{◌≡◌, refl, subst}
+use mathlib.Core.Path.{◌≡◌, sym, ap, ◌∙◌, subst}
 use mathlib.Core.Logic.{◌↔◌}
-use Prim.Native.Nat.{ℕ, ◌*◌, ◌/◌}
+use mathlib.Core.List.{List, ◌++◌, ◌∷◌, []}
+use Prim.Native.Nat.{ℕ, ◌+◌, ◌*◌, ◌/◌, ◌≤◌}
 use native.Mathlib.Omega.{arith}
-use lib.ListN.{length}
-use Rattle.lists.specs.Overwrite.{length_cut}
-use Rattle.transform.proofs.Alike.{AlikeTo, alike_none, alike_next, alike_decides}
-use Rattle.transform.proofs.blocks.equal_lanes.Goals.{At-loop-o}
+use lib.ListN.{length, drop, length-append, length-drop}
+use Rattle.transform.proofs.Alike.{AlikeTo, alike_next, alike_rest, alike_decides}
 use Rattle.transform.proofs.blocks.equal_lanes.Goals as goal
 
-pub loop-o-init : goal.loop-o-init
-loop-o-init c = (omega arith, refl, alike_none c.args.values.now)
-
-pub list_differs-bad-requires : goal.list_differs-bad-requires
-list_differs-bad-requires c = let here = (goal.at.list_differs-bad-requires c).At-loop-o in
-    length_cut (here.loop-o.o * 8) 8 here.args.values.now (omega (arith, here.loop-o.invariant.1))
-
-pub loop-o-preserved : goal.loop-o-preserved
-loop-o-preserved c = let here = (goal.at.loop-o-preserved c).At-loop-o in
-    let xs = here.args.values.now in
-    (omega arith, refl, alike_next xs here.loop-o.o here.loop-o.bad c.list_differs-bad.result here.loop-o.invariant.2 c.list_differs-bad.ensures)
+pub loop-list-preserved : goal.loop-list-preserved
+loop-list-preserved c = let xs = c.args.values.now in
+    let s = c.loop-list.invariant in
+    let step = c.in-Some.ensures.steps in
+    let o = length c.loop-list.yielded in
+    let list = c.in-Some.list.now in
+    let rest = c.next.new.self.rest.now in
+    let more : length (c.loop-list.yielded ++ c.in-Some.list ∷ []) ≡ o + 1 = length-append c.loop-list.yielded (c.in-Some.list ∷ []) in
+    let eight : length list ≡ 8 = step.1.1 ∙ s.eight in
+    let parts : drop (o * 8) xs ≡ list ++ rest = sym s.rest ∙ step.1.0 in
+    rw more
+    record {
+      eight = step.0 ∙ s.eight;
+      came = omega (arith, ap (λ (t : List ℕ). length t) parts, length-append list rest, length-drop (o * 8) xs);
+      rest = alike_rest xs list rest o parts eight;
+      alike = alike_next xs list rest o c.loop-list.bad c.list_differs-bad.result parts eight s.alike c.list_differs-bad.ensures;
+    }
 
 pub returns : goal.returns
-returns c = let here = (goal.at.returns c).At-loop-o in
-    let xs = here.args.values.now in
-    let last : here.loop-o.o ≡ length xs / 8 = omega arith in
-    alike_decides (length xs / 8) xs here.loop-o.bad (subst (λ (o : ℕ). (here.loop-o.bad ≡ 0) ↔ AlikeTo o xs) last here.loop-o.invariant.2)
+returns c = let xs = c.args.values.now in
+    let s = c.loop-list.invariant in
+    let few : length (drop (length c.loop-list.yielded * 8) xs) + 1 ≤ 8 = rw (sym s.rest) (omega (arith, c.in-None.ensures.steps, s.eight)) in
+    let last : length c.loop-list.yielded ≡ length xs / 8 = omega (arith, few, length-drop (length c.loop-list.yielded * 8) xs, s.came) in
+    alike_decides (length xs / 8) xs c.loop-list.bad (subst (λ (o : ℕ). (c.loop-list.bad ≡ 0) ↔ AlikeTo o xs) last s.alike)

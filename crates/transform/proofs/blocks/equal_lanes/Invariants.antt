@@ -1,13 +1,16 @@
--- The loop's invariant: bad is 0 exactly where the first o lists are each eight times one number.
+-- The loop's invariant: o lists came, and bad is 0 exactly where each of them is eight times one number.
 use mathlib.Core.Path.{◌≡◌}
 use mathlib.Core.Logic.{◌↔◌}
-use Prim.Native.Nat.{◌-◌, ◌/◌, ◌≤◌}
-use lib.ListN.{length}
+use Prim.Native.Nat.{◌*◌, ◌≤◌}
+use lib.ListN.{length, drop}
 use Rattle.transform.proofs.Alike.{AlikeTo}
 use Rattle.transform.proofs.blocks.equal_lanes.Given as goal
 
-abbrev pub invariant-loop-o : goal.invariant-loop-o
-invariant-loop-o l = (l.o ≤ l.n) × (l.n ≡ length l.values / 8) × ((l.bad ≡ 0) ↔ AlikeTo l.o l.values)
-
-abbrev pub decreases-loop-o : goal.decreases-loop-o
-decreases-loop-o l = l.n - l.o
+abbrev pub invariant-loop-list : goal.invariant-loop-list
+invariant-loop-list l = let o = length l.yielded in
+    record {
+      eight : l.list-iterator.size ≡ 8;
+      came : o * 8 ≤ length l.values;
+      rest : l.list-iterator.rest.now ≡ drop (o * 8) l.values;
+      alike : (l.bad ≡ 0) ↔ AlikeTo o l.values;
+    }
