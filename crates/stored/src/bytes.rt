@@ -54,10 +54,8 @@ pub fn numbers_at(file: &[u8], at: usize, narrow: bool, out: &mut [u16])
     requires { at + packed_size narrow (length out.old) ≤ length file.now }
     ensures { out.new ≡ numbers_at narrow file.now at (length out.old) }
 {
-    let mut i = 0;
-    while i < out.len() {
-        out[i] = number_at(file, at, narrow, i);
-        i += 1;
+    for (i, x) in out.iter_mut().enumerate() {
+        *x = number_at(file, at, narrow, i);
     }
 }
 
@@ -67,11 +65,9 @@ pub fn largest(file: &[u8], at: usize, narrow: bool, count: usize) -> u16
     ensures { Largest (numbers_at narrow file.now at count) result }
 {
     let mut top: u16 = 0;
-    let mut i = 0;
-    while i < count {
+    for i in 0..count {
         let x = number_at(file, at, narrow, i);
         top = if top < x { x } else { top };
-        i += 1;
     }
     top
 }

@@ -57,10 +57,8 @@ fn symbols(
     ensures { (length result ≡ 64) × (take n result ≡ symbols_at k (numbers_at narrow file.now word (2 ^ k)) (numbers_at narrow file.now proof (S k)) coin) }
 {
     let mut out = no_symbols();
-    let mut i = 0;
-    while i < n {
+    for i in 0..n {
         out[i] = symbol(file, narrow, word, proof, k, coin, i);
-        i += 1;
     }
     out
 }

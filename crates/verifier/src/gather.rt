@@ -34,11 +34,9 @@ pub fn symbols<'a>(
     ensures { (length result ≡ 64) × (take n result ≡ symbols_at (col_dim k) (line_word k (joined near.now far.now slot) proof.now (Column a)) (line_proof k proof.now (Column a)) rest) }
 {
     let mut out = no_symbols();
-    let mut i = 0;
-    while i < n {
+    for i in 0..n {
         let place = places::column_place(k, a, rest, i);
         out[i] = blocks::symbol_at(near, far, slot, proof, k, place);
-        i += 1;
     }
     out
 }
@@ -49,10 +47,8 @@ pub fn gather<'a>(near: &'a [u16], far: &'a [u16], slot: usize) -> [u16; 64]
     ensures { Transposed 8 (length near.now) (joined near.now far.now slot) no_symbols result }
 {
     let mut out = no_symbols();
-    let mut b = 0;
-    while b < 8 {
+    for b in 0..8 {
         slices::to_lane(blocks::block(near, far, slot, b), 8, b, &mut out);
-        b += 1;
     }
     out
 }

@@ -7,16 +7,9 @@ use native.Mathlib.Omega.{arith}
 use lib.ListN.{length, get_or, drop_of_length-le}
 use Rattle.field.specs.Ranges.{largest_next}
 use Rattle.stored.specs.Bytes.{numbers_at}
-use Rattle.stored.specs.Packed.{size-more, length_numbers, get_or_numbers}
+use Rattle.stored.specs.Packed.{length_numbers, get_or_numbers}
 use Rattle.stored.proofs.bytes.largest.Goals.{At-loop-i, After-number_at-x, then-top-x, else-top-x}
 use Rattle.stored.proofs.bytes.largest.Goals as goal
-
-pub loop-i-init : goal.loop-i-init
-loop-i-init c = (omega arith, λ n p. (λ b. b.1, λ b. (p, b)))
-
-pub number_at-x-requires : goal.number_at-x-requires
-number_at-x-requires c = let a = c.args in
-    omega (arith, size-more a.narrow {i = c.loop-i.i} {n = a.count} (omega arith))
 
 -- number i of the stretch
 module _ (c : goal.After-number_at-x) where
@@ -47,19 +40,17 @@ module _ (c : goal.After-number_at-x) where
 pub loop-i-preserved : goal.loop-i-preserved
 loop-i-preserved c = let p = (goal.at.loop-i-preserved c).After-number_at-x in
     let e = here p in
-    let l = long p in (
-      omega arith,
-      largest_next (numbers_at (t p) (bytes p) (place p) (count p)) (i p) (head p).loop-i.top c.if-top-x.top (omega arith)
-          (elim c.if-top-x.branch [ then-top-x w ↦ omega arith | else-top-x w ↦ omega arith ])
-          (elim c.if-top-x.branch [ then-top-x w ↦ omega arith | else-top-x w ↦ omega arith ])
-          (elim c.if-top-x.branch [ then-top-x w ↦ inr (omega arith) | else-top-x w ↦ inl (omega arith) ])
-          (head p).loop-i.invariant.1,
-    )
+    let l = long p in
+    largest_next (numbers_at (t p) (bytes p) (place p) (count p)) (i p) (head p).loop-i.top c.if-top-x.top (omega arith)
+    (elim c.if-top-x.branch [ then-top-x w ↦ omega arith | else-top-x w ↦ omega arith ])
+    (elim c.if-top-x.branch [ then-top-x w ↦ omega arith | else-top-x w ↦ omega arith ])
+    (elim c.if-top-x.branch [ then-top-x w ↦ inr (omega arith) | else-top-x w ↦ inl (omega arith) ])
+    (head p).loop-i.invariant
 
 pub returns : goal.returns
 returns c = let h = (goal.at.returns c).At-loop-i in
     let a = h.args in
     let xs = numbers_at a.narrow a.file.now a.at a.count in
     let l : length xs ≡ a.count = length_numbers a.narrow a.file.now a.at a.count in
-    λ n p. let w = h.loop-i.invariant.1 n p in
+    λ n p. let w = h.loop-i.invariant n p in
     (λ q. w.0 (q, rw (drop_of_length-le xs {i = h.loop-i.i} (omega arith)) tt), λ b. (w.1 b).0)

@@ -1,7 +1,7 @@
 -- The loop's invariant: the first i symbols are written.
 use mathlib.Core.Bool.{Bool}
 use mathlib.Core.List.{List}
-use Prim.Native.Nat.{ℕ, ◌^◌, ◌-◌, ◌≤◌}
+use Prim.Native.Nat.{ℕ, ◌^◌}
 use Rattle.lists.specs.Filled.{Filled}
 use Rattle.proximity.specs.ByLine.{place_at}
 use Rattle.proximity.specs.Dim.{S}
@@ -14,7 +14,4 @@ abbrev pub entry : List ℕ → Bool → ℕ → ℕ → ℕ → ℕ → ℕ →
 entry file narrow word proof k coin j = read_at (numbers_at narrow file word (2 ^ k)) (numbers_at narrow file proof (S k)) (place_at k coin j)
 
 abbrev pub invariant-loop-i : goal.invariant-loop-i
-invariant-loop-i l = (l.i ≤ l.n) × Filled 0 l.i (entry l.file l.narrow l.word l.proof l.k l.coin) l.initial.out l.out
-
-abbrev pub decreases-loop-i : goal.decreases-loop-i
-decreases-loop-i l = l.n - l.i
+invariant-loop-i l = Filled 0 l.i (entry l.file l.narrow l.word l.proof l.k l.coin) l.initial.out l.out

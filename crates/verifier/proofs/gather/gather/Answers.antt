@@ -14,7 +14,6 @@ pub loop-b-init : goal.loop-b-init
 loop-b-init c = let e = c.no_symbols-out.ensures in
     let a = c.args in
     let p = c.requires in (
-      omega arith,
       ap length e ∙ length_no-symbols,
       subst (Written 8 (length a.near.now) 0 (joined a.near.now a.far.now a.slot) no_symbols) (sym e)
           (written_none 8 (length a.near.now) (joined a.near.now a.far.now a.slot) no_symbols (omega (arith, length_joined a.near.now a.far.now a.slot p.0))),
@@ -52,18 +51,17 @@ module _ (c : goal.After-block) where
   long = ap length here ∙ length_list 8 (length near) word no_symbols fits head.loop-b.b inside
 
 pub slice_bounds-to_lane-end : goal.slice_bounds-to_lane-end
-slice_bounds-to_lane-end c = sym (head (goal.at.slice_bounds-to_lane-end c).After-block).loop-b.invariant.1
+slice_bounds-to_lane-end c = sym (head (goal.at.slice_bounds-to_lane-end c).After-block).loop-b.invariant.0
 
 pub to_lane-requires : goal.to_lane-requires
 to_lane-requires c = let b = (goal.at.to_lane-requires c).After-block in
-    (inside b, omega (arith, long b, (head b).loop-b.invariant.1, (start b).requires.1))
+    (inside b, omega (arith, long b, (head b).loop-b.invariant.0, (start b).requires.1))
 
 pub loop-b-preserved : goal.loop-b-preserved
 loop-b-preserved c = let b = (goal.at.loop-b-preserved c).After-block in
     let s = c.to_lane.ensures in (
-      omega (arith, inside b),
-      s.kept ∙ (head b).loop-b.invariant.1,
-      written_next 8 (length (near b)) (word b) no_symbols (fits b) (head b).loop-b.b (inside b) (head b).loop-b.out _ (head b).loop-b.invariant.2
+      s.kept ∙ (head b).loop-b.invariant.0,
+      written_next 8 (length (near b)) (word b) no_symbols (fits b) (head b).loop-b.b (inside b) (head b).loop-b.out _ (head b).loop-b.invariant.1
           (subst (λ (l : List ℕ). Strided 8 (head b).loop-b.b (length l) (λ (o : ℕ). get_or l o 0) (head b).loop-b.out c.to_lane.new.to) (here b) s),
     )
 
@@ -72,4 +70,4 @@ returns c = let h = (goal.at.returns c).At-loop-b in
     let s = (goal.at.At-loop-b h).Start in
     let near' = s.args.near.now in
     written_all 8 (length near') (joined near' s.args.far.now s.args.slot) no_symbols
-    (omega (arith, length_joined near' s.args.far.now s.args.slot s.requires.0)) h.loop-b.b h.loop-b.out (omega arith) h.loop-b.invariant.2
+    (omega (arith, length_joined near' s.args.far.now s.args.slot s.requires.0)) h.loop-b.b h.loop-b.out (omega arith) h.loop-b.invariant.1

@@ -21,7 +21,7 @@ use Rattle.verifier.proofs.gather.symbols.Goals.{Start, At-loop-i, In-loop-i}
 use Rattle.verifier.proofs.gather.symbols.Goals as goal
 
 pub loop-i-init : goal.loop-i-init
-loop-i-init c = (omega arith, ap length c.no_symbols-out.ensures ∙ length_no-symbols, filled_none 0 _ _)
+loop-i-init c = (ap length c.no_symbols-out.ensures ∙ length_no-symbols, filled_none 0 _ _)
 
 -- symbol i
 module _ (c : goal.In-loop-i) where
@@ -65,9 +65,6 @@ offset_bounds-out-i c = omega (arith, room (goal.at.offset_bounds-out-i c).In-lo
 pub bounds-out-i : goal.bounds-out-i
 bounds-out-i c = room (goal.at.bounds-out-i c).In-loop-i
 
-pub overflow_add-i : goal.overflow_add-i
-overflow_add-i c = omega (arith, room (goal.at.overflow_add-i c).In-loop-i)
-
 pub loop-i-preserved : goal.loop-i-preserved
 loop-i-preserved c = let h = (goal.at.loop-i-preserved c).In-loop-i in
     let s = start h in
@@ -75,7 +72,7 @@ loop-i-preserved c = let h = (goal.at.loop-i-preserved c).In-loop-i in
     let told =
     c.symbol_at.ensures ∙ ap (read_at (word h) s.args.proof.now) c.column_place-place.ensures.0
     ∙ sym (read_line (k h) s.requires.1 (word h) s.args.proof.now (long h) s.requires.0.proof (Column s.args.a) s.requires.3 (place_at (col_dim (k h)) (rest h) (i h)) (place_inside (col_dim (k h)) (rest h) (i h) (read h))) in
-    (omega arith, v.1, filled-front c.symbol_at.result (omega (arith, room h, v.1)) told v.2)
+    (v.0, filled-front c.symbol_at.result (omega (arith, room h, v.0)) told v.1)
 
 pub returns : goal.returns
 returns c = let h = (goal.at.returns c).At-loop-i in
@@ -83,8 +80,8 @@ returns c = let h = (goal.at.returns c).At-loop-i in
     let a = s.args in
     let f = entry a.near.now a.far.now a.slot a.proof.now a.k a.a a.rest in
     let last : h.loop-i.i ≡ a.n = omega arith in
-    let filled : Filled 0 a.n f h.no_symbols-out.result h.loop-i.out = subst (λ (j : ℕ). Filled 0 j f h.no_symbols-out.result h.loop-i.out) last h.loop-i.invariant.2 in
-    let fits : a.n ≤ length h.no_symbols-out.result = omega (arith, h.loop-i.invariant.1, s.requires.4, few_reads (dim (col_dim a.k)) a.rest) in (
-      filled.kept ∙ h.loop-i.invariant.1,
+    let filled : Filled 0 a.n f h.no_symbols-out.result h.loop-i.out = subst (λ (j : ℕ). Filled 0 j f h.no_symbols-out.result h.loop-i.out) last h.loop-i.invariant.1 in
+    let fits : a.n ≤ length h.no_symbols-out.result = omega (arith, h.loop-i.invariant.0, s.requires.4, few_reads (dim (col_dim a.k)) a.rest) in (
+      filled.kept ∙ h.loop-i.invariant.0,
       filled_take fits filled ∙ ap (λ (n : ℕ). tab n f) s.requires.4 ∙ symbols-table (col_dim a.k) _ _ a.rest,
     )

@@ -1,7 +1,7 @@
 -- The loop's invariant: the first i symbols are gathered.
 use mathlib.Core.Path.{◌≡◌}
 use mathlib.Core.List.{List}
-use Prim.Native.Nat.{ℕ, ◌-◌, ◌≤◌}
+use Prim.Native.Nat.{ℕ}
 use lib.ListN.{length}
 use Rattle.lists.specs.Filled.{Filled}
 use Rattle.proximity.specs.ByLine.{line_word, line_proof, place_at}
@@ -16,7 +16,4 @@ abbrev pub entry : List ℕ → List ℕ → ℕ → List ℕ → ℕ → ℕ �
 entry near far slot proof k a rest j = read_at (line_word k (joined near far slot) proof (Column a)) (line_proof k proof (Column a)) (place_at (col_dim k) rest j)
 
 abbrev pub invariant-loop-i : goal.invariant-loop-i
-invariant-loop-i l = (l.i ≤ l.n) × (length l.initial.out ≡ 64) × Filled 0 l.i (entry l.near l.far l.slot l.proof l.k l.a l.rest) l.initial.out l.out
-
-abbrev pub decreases-loop-i : goal.decreases-loop-i
-decreases-loop-i l = l.n - l.i
+invariant-loop-i l = (length l.initial.out ≡ 64) × Filled 0 l.i (entry l.near l.far l.slot l.proof l.k l.a l.rest) l.initial.out l.out
