@@ -2,27 +2,10 @@
 // the number of zeros in a scratch.
 #![tactic(auto)]
 
-ghost use Rattle.std.specs.Prelude.{◌≤◌};
-
 use streams::STDOUT_FILENO;
 
-pub fn one_if(b: bool) -> usize
-    ensures { result ≤ 1 }
-{
-    if b {
-        return 1;
-    }
-    0
-}
-
 pub fn zeros(xs: &[u16]) -> usize {
-    let mut n: usize = 0;
-    let mut i = 0;
-    while i < xs.len() {
-        n += one_if(xs[i] == 0);
-        i += 1;
-    }
-    n
+    xs.iter().filter(|x| **x == 0).count()
 }
 
 fn number(x: u16) {
@@ -31,10 +14,8 @@ fn number(x: u16) {
 }
 
 pub fn numbers(xs: &[u16]) {
-    let mut i = 0;
-    while i < xs.len() {
-        number(xs[i]);
-        i += 1;
+    for x in xs {
+        number(*x);
     }
 }
 

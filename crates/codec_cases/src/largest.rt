@@ -6,13 +6,7 @@ use codec::Outcome;
 
 // A number that depends on each symbol and its place.
 fn digest(xs: &[u16]) -> u32 {
-    let mut h: u32 = 1;
-    let mut i = 0;
-    while i < xs.len() {
-        h = (h * 5 + xs[i] as u32) % 65521;
-        i += 1;
-    }
-    h
+    xs.iter().fold(1, |h, x| h % 65521 * 5 + *x as u32) % 65521
 }
 
 fn show(label: &[u8], r: Outcome, out: &[u16], scratch: &[u16]) {
@@ -22,12 +16,10 @@ fn show(label: &[u8], r: Outcome, out: &[u16], scratch: &[u16]) {
 }
 
 fn fill(values: &mut [u16]) {
-    let mut x: u32 = 1;
-    let mut i = 0;
-    while i < values.len() {
-        x = (x * 25173 + 13849) % 65536;
-        values[i] = x as u16;
-        i += 1;
+    let mut x: u16 = 1;
+    for value in values {
+        x = x.wrapping_mul(25173).wrapping_add(13849);
+        *value = x;
     }
 }
 
@@ -67,11 +59,11 @@ fn decode(label: &[u8], shift: u16, word: &[u16], scratch: &mut [u16]) {
 pub fn largest() {
     let mut word = word_room();
     let mut scratch = scratch_room();
-    encode(b"encode 14:", 0, &mut word, &mut scratch);
-    decode(b"decode 14:", 0, &word, &mut scratch);
+    encode(b"encode 14", 0, &mut word, &mut scratch);
+    decode(b"decode 14", 0, &word, &mut scratch);
     word[16383] ^= 1;
-    decode(b"decode 14, last symbol changed:", 0, &word, &mut scratch);
-    encode(b"encode 14 at 43981:", 43981, &mut word, &mut scratch);
-    decode(b"decode 14 at 43981:", 43981, &word, &mut scratch);
-    decode(b"decode 14 at 0:", 0, &word, &mut scratch);
+    decode(b"decode 14, last symbol changed", 0, &word, &mut scratch);
+    encode(b"encode 14 at 43981", 43981, &mut word, &mut scratch);
+    decode(b"decode 14 at 43981", 43981, &word, &mut scratch);
+    decode(b"decode 14 at 0", 0, &word, &mut scratch);
 }

@@ -10,16 +10,16 @@ mod text;
 use case_lines::{cleared, figure, numbers};
 use codec::Outcome;
 use streams::{STDIN_FILENO, STDOUT_FILENO};
-use text::{at_most, decimal, list, part, place};
+use text::{at_most, decimal, list, part};
 
 fn outcome(label: &[u8], r: Outcome) {
     io::write_all(STDOUT_FILENO, label);
     match r {
         Outcome::Done => {
-            io::write_all(STDOUT_FILENO, b" done,");
+            io::write_all(STDOUT_FILENO, b": done,");
         }
         Outcome::Refused(n) => {
-            figure(b" refused ", n as u64);
+            figure(b": refused ", n as u64);
             io::write_all(STDOUT_FILENO, b",");
         }
     }
@@ -62,13 +62,12 @@ fn case(line: &[u8]) {
     lent(line, &basis[..k], &given[..n]);
 }
 
-// One case after the other; each has eight marks.
+// One case after the other, each a line.
 fn cases(text: &[u8]) {
-    let mut at = 0;
-    while at < text.len() {
-        let rest = &text[at..];
-        case(rest);
-        at += 1 + place(rest, 8);
+    for line in text.split(|c| *c == b'\n') {
+        if !line.is_empty() {
+            case(line);
+        }
     }
 }
 

@@ -1,10 +1,8 @@
 // Cases as text. A case is a line of parts: its label, which a colon ends, then 0 to encode or 1 to
 // decode, the modulus, the basis, the shift, the coefficients or the word, the length of the output and
 // that of the scratch, which semicolons end. A space stands before each number.
-ghost use Rattle.std.specs.Prelude.{◌≤◌, length};
+ghost use Rattle.std.specs.Prelude.{◌≤◌};
 ghost use Rattle.io.specs.Counts.{IsPrefixLen};
-
-use case_lines::one_if;
 
 // The number n, or that of xs where n is more.
 pub fn at_most(xs: &[u16], n: usize) -> usize
@@ -20,40 +18,9 @@ fn is_mark(c: u8) -> bool {
     c == b':' || c == b';'
 }
 
-fn less(n: usize, m: usize) -> usize {
-    if m <= n {
-        return n - m;
-    }
-    0
-}
-
-// Where part k begins: after k marks.
-pub fn place(line: &[u8], k: usize) -> usize
-    ensures { result ≤ length line.now }
-{
-    let mut left = k;
-    let mut i = 0;
-    while i < line.len() {
-        if left == 0 {
-            return i;
-        }
-        left = less(left, one_if(is_mark(line[i])));
-        i += 1;
-    }
-    i
-}
-
-// The bytes from a place to another; none where these are not in order.
-fn between(line: &[u8], from: usize, to: usize) -> &[u8] {
-    if from <= to && to <= line.len() {
-        return &line[from..to];
-    }
-    &line[..0]
-}
-
-// Part k, which is at most 7, with the mark that ends it.
+// Part k, without the mark that ends it.
 pub fn part(line: &[u8], k: usize) -> &[u8] {
-    between(line, place(line, k), place(line, k % 8 + 1))
+    line.split(|c| is_mark(*c)).nth(k).unwrap_or(&[])
 }
 
 // The number x with a digit behind it; a space starts another number.
@@ -61,42 +28,21 @@ fn next(x: u32, c: u8) -> u32 {
     if c == b' ' {
         return 0;
     }
-    if is_mark(c) {
-        return x;
-    }
     x % 100000 * 10 + (c % 16) as u32
 }
 
 // The last number of a part.
 pub fn decimal(part: &[u8]) -> u32 {
-    let mut x = 0;
-    let mut i = 0;
-    while i < part.len() {
-        x = next(x, part[i]);
-        i += 1;
-    }
-    x
-}
-
-fn put(out: &mut [u16], i: usize, x: u32) {
-    if i < out.len() {
-        out[i] = (x % 65536) as u16;
-    }
+    part.iter().fold(0, |x, c| next(x, *c))
 }
 
 // The numbers of a part, and how many.
 pub fn list(part: &[u8], out: &mut [u16]) -> usize
     ensures { IsPrefixLen result out.new }
 {
-    let mut x = 0;
-    let mut n = 0;
-    let mut i = 0;
-    while i < part.len() {
-        let c = part[i];
-        x = next(x, c);
-        n += one_if(c == b' ');
-        put(out, less(n, 1), x);
-        i += 1;
+    let numbers = part.split(|c| *c == b' ').skip(1);
+    for (symbol, number) in out.iter_mut().zip(numbers) {
+        *symbol = (decimal(number) % 65536) as u16;
     }
-    at_most(out, n)
+    at_most(out, part.iter().filter(|c| **c == b' ').count())
 }

@@ -14,10 +14,8 @@ fn symbol(i: usize, end: usize) -> u16 {
 
 // Adds the word: to zeros, which become the word; or to a word, which has zeros where it was the same.
 fn add(end: usize, values: &mut [u16]) {
-    let mut i = 0;
-    while i < values.len() {
-        values[i] ^= symbol(i, end);
-        i += 1;
+    for (i, value) in values.iter_mut().enumerate() {
+        *value ^= symbol(i, end);
     }
 }
 

@@ -5,20 +5,12 @@
 mod lines;
 mod short;
 
-ghost use Rattle.std.specs.Prelude.{◌≤◌};
-
 use lines::{line, outcome, verdict};
 use streams::STDOUT_FILENO;
 use verifier::Verdict;
 
-fn one_unless_accepted(v: Verdict) -> u64
-    ensures { result ≤ 1 }
-{
-    match v {
-        Verdict::Accept(n) => 0,
-        Verdict::Reject(_) => 1,
-        Verdict::Refused(n) => 1,
-    }
+fn is_accepted(v: Verdict) -> bool {
+    matches!(v, Verdict::Accept(_))
 }
 
 // The coins below the given number at which the pair is not accepted.
@@ -29,14 +21,10 @@ fn unaccepted<'a>(
     word: &'a [u16],
     proof: &'a [u16],
     coins: u64,
-) -> u64 {
-    let mut n: u64 = 0;
-    let mut coin: u64 = 0;
-    while coin < coins {
-        n += one_unless_accepted(verifier::check(modulus, basis, shift, word, proof, coin));
-        coin += 1;
-    }
-    n
+) -> usize {
+    (0..coins)
+        .filter(|coin| !is_accepted(verifier::check(modulus, basis, shift, word, proof, *coin)))
+        .count()
 }
 
 fn count<'a>(
@@ -49,7 +37,7 @@ fn count<'a>(
     coins: u64,
 ) {
     let n = unaccepted(modulus, basis, shift, word, proof, coins);
-    line(label, b": rejecting coins ", n);
+    line(label, b": rejecting coins ", n as u64);
 }
 
 fn change(word: &mut [u16]) {
