@@ -13,6 +13,8 @@ use Rattle.verifier.specs.Checker.{delivery_checks, read_checks, checker_checks,
 use Rattle.verifier.specs.Rejected.{InBounds, told_bounds}
 use Rattle.verifier.specs.Verdicts.{answered_alike, told-delivery, delivery-passes}
 use Rattle.verifier.specs.declared.Rejection.{Rejection}
+use Rattle.refusals.specs.declared.Refusal.{Refusal}
+use Rattle.std.specs.Prelude.{Result}
 use Rattle.verifier.specs.declared.Verdict.{Verdict}
 use Rattle.verifier.specs.declared.Verdict.TheVariants.{Reject}
 use Rattle.stored.proofs.Accepted.{file_numbered}
@@ -81,7 +83,7 @@ module _ (f : List ℕ) (p : Passes (file_checks f)) (coin : ℕ) where
   to_bytes = alike on_symbols on_bytes (2 ^ R (dim_in f)) coin high low (λ h. (refused_coin f coin p h).1) (coin_passes f coin p)
 
   -- the checks of the file leave 8 alone of the checks on symbols, and the verdict is the same
-  pub file-answers : (v : Verdict) → AnsweredFile f coin v ↔ Told (modulus_in f) (basis_in f) (shift_in f) (word_in f) (proof_in f) coin v
+  pub file-answers : (v : Result Verdict Refusal) → AnsweredFile f coin v ↔ Told (modulus_in f) (basis_in f) (shift_in f) (word_in f) (proof_in f) coin v
   file-answers v = (
     (λ a. subst (λ (k : ℕ). Answered on_symbols (symbols (modulus_in f)) k (basis_in f) (word_in f) (proof_in f) coin v) (sym (length_basis f))
         (answered_alike on_bytes on_symbols to-symbols (symbols (modulus_in f)) (dim_in f) (basis_in f) (word_in f) (proof_in f) coin v a)),
