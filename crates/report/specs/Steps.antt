@@ -15,13 +15,18 @@ use Rattle.report.specs.declared.Entry.{Entry}
 use Rattle.report.specs.declared.Report.{Report}
 use Rattle.report.specs.declared.Total.{Total}
 
+-- where the file of an entry ends; a refused one is not passed
+abbrev pub end_of : Result Entry Refusal → ℕ
+end_of (Ok e) = e.end
+end_of (Err r) = 0
+
 -- what the program does: at most n calls of `next` from the report p on, each on the window of what is left of s; they end where the report
 -- does not go on or nothing is left. es are the entries on the way, and q is the report at the end.
-abbrev pub Steps : ℕ → List ℕ → Report → List Entry → Report → Type 0
+abbrev pub Steps : ℕ → List ℕ → Report → List (Result Entry Refusal) → Report → Type 0
 Steps zero s p es q = (es ≡ []) × (q ≡ p)
 Steps (suc n) s p es q =
     (GoesOn p × (0 < length s)
-    × ((r : Report) × (rest : List Entry) × Next (window_on s) p r × (es ≡ r.latest ∷ rest) × Steps n (drop r.latest.end s) r rest q))
+    × ((r : Report) × (e : Result Entry Refusal) × (rest : List (Result Entry Refusal)) × Next (window_on s) p r × (r.latest ≡ Some e) × (es ≡ e ∷ rest) × Steps n (drop (end_of e) s) r rest q))
     ⊎ ((GoesOn p × (0 < length s) → ⊥) × (es ≡ []) × (q ≡ p))
 
 -- ---- the total on the way
