@@ -49,7 +49,7 @@ pub extern "C" fn proximity_write_form_two(
 pub extern "C" fn proximity_make(message: &[u8], out: &mut [u8]) -> u32
     ensures { (m : Result ℕ Refusal) × making.Told message.now out.old out.new m × (result ≡ count_code m) }
 {
-    count_code(delivery::make(message, out)) as u32
+    count_code(delivery::make(message, out))
 }
 
 // One of six numbers by its place: 0, what all coins tell, and past them the last.

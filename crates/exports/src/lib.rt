@@ -59,12 +59,12 @@ fn verdict_code(v: Result<Verdict, Refusal>) -> u64
 }
 
 // A number of at most 16 bits; or 65536 and the number of the refusal.
-fn count_code(c: Result<usize, Refusal>) -> u64
+fn count_code(c: Result<usize, Refusal>) -> u32
     ensures { result ≡ count_code c }
 {
     match c {
-        Ok(n) => n as u64 % 65536,
-        Err(e) => 65536 + u64::from(u8::from(e)),
+        Ok(n) => (n % 65536) as u32,
+        Err(e) => 65536 + u32::from(u8::from(e)),
     }
 }
 
@@ -192,5 +192,5 @@ pub extern "C" fn proximity_correct(
 ) -> u64
     ensures { (c : Result ℕ Refusal) × CorrectedWord modulus basis.now shift word.now corrected.old corrected.new scratch.old scratch.new c × (result ≡ count_code c) }
 {
-    count_code(correction::correct(modulus, basis, shift, word, corrected, scratch))
+    u64::from(count_code(correction::correct(modulus, basis, shift, word, corrected, scratch)))
 }
