@@ -108,9 +108,9 @@ pub fn read(file: &[u8]) -> Result<Reading, Refusal>
 pub fn word_part(file: &[u8]) -> Result<&[u8], Refusal>
     ensures { PartTold file.now (word_start (form_in file.now) (dim_in file.now)) (packed_size (narrow_in file.now) (2 ^ dim_in file.now)) result }
 {
-    let r = read(file)?;
-    let start = r.word;
-    let end = r.proof - 6;
+    let places = read(file)?;
+    let start = places.word;
+    let end = places.proof - 6;
     Ok(&file[start..end])
 }
 
@@ -135,8 +135,8 @@ pub fn proof_part(file: &[u8]) -> Result<&[u8], Refusal>
 pub fn check_file(file: &[u8], coin: u64) -> Result<Verdict, Refusal>
     ensures { AnsweredFile file.now coin result }
 {
-    let r = read(file)?;
-    let setting = r.setting;
+    let found = read(file)?;
+    let setting = found.setting;
     if coin >> tables::coin_bits(setting.space.k) != 0 {
         return Err(Refusal::NoCoin);
     }
@@ -144,9 +144,9 @@ pub fn check_file(file: &[u8], coin: u64) -> Result<Verdict, Refusal>
         setting.field,
         setting.space,
         file,
-        r.narrow,
-        r.word,
-        r.proof,
+        found.narrow,
+        found.word,
+        found.proof,
         coin,
     )
 }
