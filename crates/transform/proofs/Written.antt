@@ -1,5 +1,5 @@
 -- The loops that write lanes. Assumes nothing.
-use mathlib.Core.Path.{◌≡◌, sym, ap, ◌∙◌}
+use mathlib.Core.Path.{◌≡◌, refl, sym, ap, ◌∙◌}
 use mathlib.Core.List.{List}
 use Prim.Native.Nat.{ℕ, ◌+◌, ◌-◌, ◌*◌, ◌≤◌, ◌<◌}
 use native.Mathlib.Decide.{dec_lt}
@@ -22,8 +22,11 @@ abbrev pub cut : ℕ → ℕ → List ℕ → List ℕ
 cut size j from = take (j * size + size - j * size) (drop (j * size) from)
 
 module _ (rows size : ℕ) (from old : List ℕ) (fits : rows * size ≤ length from) where
+  pub written_none : Written rows size 0 from old old
+  written_none = record { kept = refl; inside = λ r o h k. absurd (omega arith); beyond = λ p h. refl }
+
   module _ (j : ℕ) (h : j < rows) where
-    length_list : length (cut size j from) ≡ size
+    pub length_list : length (cut size j from) ≡ size
     length_list = length_cut (j * size) size from (omega (arith, part-fits {i = j} {n = rows} size h))
 
     pub written_next : (v w : List ℕ) → Written rows size j from old v → Strided rows j (length (cut size j from)) (λ (o : ℕ). get_or (cut size j from) o 0) v w
