@@ -20,12 +20,10 @@ fn differing(word: &[u16], size: usize, lanes: &[u16]) -> usize
     ensures { result ≡ differences word.now (in_order size lanes.now) }
 {
     let mut n: usize = 0;
-    let mut i = 0;
-    while i < word.len() {
-        if word[i] != lanes[i % size * 8 + i / size] {
+    for (i, x) in word.iter().enumerate() {
+        if *x != lanes[i % size * 8 + i / size] {
             n += 1;
         }
-        i += 1;
     }
     n
 }
