@@ -7,7 +7,7 @@ use native.Mathlib.Omega.{arith}
 use lib.ListN.{length}
 use Rattle.std.specs.Prelude.{Result, Ok, Err}
 use Rattle.lists.specs.All.{Below}
-use Rattle.lists.specs.Answers.{Checks, Answers, Passes, Numbered}
+use Rattle.lists.specs.Answers.{Checks, Answers, Passes, Refuses, Numbered}
 use Rattle.lists.specs.Calls.{zeros, RefusedWith, Within, refused_late, accepted}
 use Rattle.lists.specs.Lengths.{lengths-passed}
 use Rattle.field.specs.Binary.{degree}
@@ -15,7 +15,7 @@ use Rattle.field.specs.Symbols.{symbols}
 use Rattle.refusals.specs.Gives.{number_positive}
 use Rattle.refusals.specs.Refusal.{number, answer_of}
 use Rattle.refusals.specs.declared.Refusal.{Refusal}
-use Rattle.space.specs.Early.{early-passes, length_refused}
+use Rattle.space.specs.Early.{early-passes, setting_refused, length_refused}
 use Rattle.space.specs.Ready.{Ready, ready, settled_shift}
 use Rattle.space.specs.Setting.{setting_checks, Settled}
 use Rattle.space.specs.Sound.{sound_field}
@@ -34,7 +34,10 @@ module _ (m : ℕ) (bs : List ℕ) (σ : ℕ) (word old scratch : List ℕ) wher
   abbrev lengths : Checks
   lengths = length_checks (length bs) (length word) (length old) (length scratch)
 
-  -- a refusal by a length
+  -- a refusal by the setting, and by a length
+  pub setting_told : (e : Refusal) → Refuses (setting_checks m bs σ) (number e) → CorrectedWord m bs σ word old old scratch scratch (Err e)
+  setting_told e r = setting_refused m bs σ lengths (early-within m bs σ (length word) (length old) (length scratch)) (near_checks m bs σ word) (number e) old scratch r
+
   pub length_told : (e : Refusal) → Passes (setting_checks m bs σ) → Answers lengths (number e) → CorrectedWord m bs σ word old old scratch scratch (Err e)
   length_told e p a =
       length_refused m bs σ lengths (early-within m bs σ (length word) (length old) (length scratch)) (near_checks m bs σ word) (number e) old scratch p (number_positive e, a)

@@ -2,8 +2,13 @@
 use mathlib.Core.Path.{ap, ◌∙◌}
 use Rattle.lists.specs.Calls.{zeros}
 use Rattle.std.proofs.lemmas.Result.{err_from_is_err_and}
-use Rattle.correction.proofs.CallLaws.{length_told, in_places, told_of}
+use Rattle.correction.proofs.CallLaws.{setting_told, length_told, in_places, told_of}
 use Rattle.correction.proofs.correct.Goals as goal
+
+pub returns-in_err-s : goal.returns-in_err-s
+returns-in_err-s c = let a = c.args in
+    let p = err_from_is_err_and c.from_residual.result c.from_residual.ensures.1 in
+    rw (p.1, p.2) (setting_told a.modulus a.basis.now a.shift a.word.now a.corrected.now a.scratch.now _ c.in_err-s.ensures)
 
 pub returns-in_err-check_lengths : goal.returns-in_err-check_lengths
 returns-in_err-check_lengths c = let a = c.args in

@@ -13,5 +13,5 @@ returns-then-is_codeword c = let word = c.args.word.now in
     let output = c.args.corrected.now in
     inl (
       decides_true (Below (2 ^ degree c.args.s.field.modulus) word) c.all_symbols.ensures c.if-not-all_symbols.false,
-      nearest_self word _ c.is_codeword.ensures c.if-is_codeword.true output _ (c.copy.ensures ∙ copy-whole word output (sym c.requires.same)),
+      nearest_self {s = c.args.s} word _ c.is_codeword.ensures c.if-is_codeword.true output _ (c.copy.ensures ∙ copy-whole word output (sym c.requires.same)),
     )
