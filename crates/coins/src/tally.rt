@@ -47,12 +47,10 @@ pub fn all_coins(file: &[u8], r: Reading) -> Sweep
     let coins = 1u64 << tables::coin_bits(k);
     let mut rejects: u64 = 0;
     let mut most: usize = 0;
-    let mut coin: u64 = 0;
-    while coin < coins {
+    for coin in 0..coins {
         let v = parts::check_word(field, k, &images, &word[..n], &proof[..s], coin);
         rejects += rejecting(v);
         most = most.max(reads(v));
-        coin += 1;
     }
     Sweep {
         k,
