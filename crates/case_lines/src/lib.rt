@@ -1,32 +1,22 @@
-// Parts of the lines that programs with cases print: a text with its number, a list of symbols, and
-// the number of zeros in a scratch.
+// Parts of the lines that programs with cases print: a list of symbols, and the number of zeros in a
+// scratch.
 #![tactic(auto)]
 
-use streams::STDOUT_FILENO;
+use std::fmt;
 
 pub fn zeros(xs: &[u16]) -> usize {
     xs.iter().filter(|x| **x == 0).count()
 }
 
-fn number(x: u16) {
-    io::write_all(STDOUT_FILENO, b" ");
-    io::print_decimal(STDOUT_FILENO, x as u64);
-}
+// Symbols in a line: each has a space before it.
+#[derive(Clone, Copy)]
+pub struct Symbols<'a>(pub &'a [u16]);
 
-pub fn numbers(xs: &[u16]) {
-    for x in xs {
-        number(*x);
+impl fmt::Display for Symbols<'_> {
+    fn fmt<W: fmt::Write>(&self, f: &mut fmt::Formatter<W>) -> fmt::Result {
+        for x in self.0 {
+            write!(f, " {x}")?;
+        }
+        Ok(())
     }
-}
-
-// A text, and a number behind it.
-pub fn figure(what: &[u8], n: u64) {
-    io::write_all(STDOUT_FILENO, what);
-    io::print_decimal(STDOUT_FILENO, n);
-}
-
-// The number of zeros in the scratch, and the end of the line.
-pub fn cleared(scratch: &[u16]) {
-    figure(b", zeros ", zeros(scratch) as u64);
-    io::write_all(STDOUT_FILENO, b"\n");
 }

@@ -59,6 +59,15 @@ module _ {s : Setting} {bs : List ℕ} (r : Ready s.field.modulus bs s) where
 
 -- ---- the codeword test
 
+module _ {s : Setting} {bs : List ℕ} (r : Ready s.field.modulus bs s) (word : List ℕ) {answer : Bool} {work : List ℕ} (t : Tested s.field.modulus s.space.images s.space.k word answer work) where
+  pub tested_code : answer ≡ true → Codeword (symbols s.field.modulus) s.space.k bs word
+  tested_code = decides_true (Codeword (symbols s.field.modulus) s.space.k bs word) (t.decides bs (ready_basis r) r.images)
+
+  pub tested_none : answer ≡ false → Codeword (symbols s.field.modulus) (length bs) bs word → ⊥
+  tested_none e c =
+      decides_false (Codeword (symbols s.field.modulus) s.space.k bs word) (t.decides bs (ready_basis r) r.images) e
+      (subst (λ (i : ℕ). Codeword (symbols s.field.modulus) i bs word) (sym r.dimension) c)
+
 module _ {s : Setting} (u : Usable s) (word work rest : List ℕ) (lw : length work ≡ 2 ^ s.space.k) where
   -- the lanes stand in front
   front-block : block s.space.k 0 (work ++ rest) ≡ block s.space.k 0 work
@@ -71,19 +80,9 @@ module _ {s : Setting} (u : Usable s) (word work rest : List ℕ) (lw : length w
       subst (Below (2 ^ degree s.field.modulus)) (sym front-block)
       (lane_each (λ (x : ℕ). x < 2 ^ degree s.field.modulus) 8 0 (2 ^ (s.space.k - 3)) work (lib.Pow.pow_pos (degree s.field.modulus)) b)
 
-  module _ {answer : Bool} (t : Tested s.field.modulus s.space.images s.space.k word answer work) {bs : List ℕ} (r : Ready s.field.modulus bs s) where
-    pub tested_zero : Below (2 ^ degree s.field.modulus) word → length word ≡ 2 ^ s.space.k → answer ≡ true → InBlockZero s bs word (work ++ rest)
-    tested_zero bw l e = (
-      bw,
-      l,
-      decides_true (Codeword (symbols s.field.modulus) s.space.k bs word) (t.decides bs (ready_basis r) r.images) e,
-      front-block ∙ t.coeffs bs (ready_basis r) r.images 0 (omega arith),
-    )
-
-    pub tested_none : answer ≡ false → Codeword (symbols s.field.modulus) (length bs) bs word → ⊥
-    tested_none e c =
-        decides_false (Codeword (symbols s.field.modulus) s.space.k bs word) (t.decides bs (ready_basis r) r.images) e
-        (subst (λ (i : ℕ). Codeword (symbols s.field.modulus) i bs word) (sym r.dimension) c)
+  pub tested_zero : {answer : Bool} → Tested s.field.modulus s.space.images s.space.k word answer work → {bs : List ℕ} → Ready s.field.modulus bs s
+      → Below (2 ^ degree s.field.modulus) word → length word ≡ 2 ^ s.space.k → answer ≡ true → InBlockZero s bs word (work ++ rest)
+  tested_zero t {bs} r b l e = (b, l, tested_code r word t e, front-block ∙ t.coeffs bs (ready_basis r) r.images 0 (omega arith))
 
 -- ---- the shift
 

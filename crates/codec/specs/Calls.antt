@@ -1,5 +1,5 @@
 -- The calls of the encoder and the decoder: the order of their checks, and what they leave.
-use Rattle.std.specs.Prelude.{◌≡◌, ◌⊎◌, ◌≢◌, List, [], ◌∷◌, ◌++◌, ℕ, zero, suc, ◌-◌, ◌^◌, ◌<◌, length}
+use Rattle.std.specs.Prelude.{◌≡◌, ◌⊎◌, ◌≢◌, List, [], ◌∷◌, ◌++◌, ℕ, ◌-◌, ◌^◌, ◌<◌, length, Result, Ok, Err}
 use Rattle.lists.specs.All.{All, Below}
 use Rattle.lists.specs.Answers.{Checks}
 use Rattle.lists.specs.Calls.{Accepted, RefusedWith}
@@ -7,18 +7,13 @@ use Rattle.field.specs.Binary.{degree}
 use Rattle.field.specs.Symbols.{symbols}
 use Rattle.poly.specs.Shift.{word_at, CodewordAt}
 use Rattle.space.specs.Setting.{setting_checks}
-use Rattle.space.specs.Early.{EarlyOf}
-use Rattle.codec.specs.declared.Outcome.{Outcome}
-use Rattle.codec.specs.declared.Outcome.TheVariants.{Done, Refused}
+use Rattle.refusals.specs.Refusal.{number}
+use Rattle.refusals.specs.declared.Refusal.{Refusal}
 use Rattle.codec.specs.Scratch.{scratch_for}
 
 -- checks 6 and 7 at dimension k, of the lengths of the coefficients, the word and the scratch
 abbrev pub length_checks : ℕ → ℕ → ℕ → ℕ → Checks
 length_checks k coefficients word scratch = (6, (coefficients ≢ 2 ^ (k - 3)) ⊎ (word ≢ 2 ^ k)) ∷ (7, scratch < scratch_for k) ∷ []
-
--- the answer of checks 1 to 7, from that of checks 1 to 5
-abbrev pub Early : ℕ → ℕ → ℕ → ℕ → ℕ → ℕ → Type 0
-Early refusal k coefficients word scratch r = EarlyOf (length_checks k coefficients word scratch) refusal r
 
 -- check 9, of symbols that are read
 abbrev pub symbol_checks : ℕ → List ℕ → Checks
@@ -36,18 +31,13 @@ encode_checks m bs σ coefficients word scratch = setting_checks m bs σ ++ leng
 abbrev pub decode_checks : ℕ → List ℕ → ℕ → List ℕ → ℕ → ℕ → Checks
 decode_checks m bs σ word coefficients scratch = setting_checks m bs σ ++ length_checks (length bs) coefficients (length word) scratch ++ word_checks m bs σ word
 
--- the outcome by its number
-unfoldable pub outcome_of : ℕ → Outcome
-outcome_of zero = Done
-outcome_of (suc n) = Refused (suc n)
-
--- what an outcome says of the output and of the scratch
-abbrev pub Told : Checks → (List ℕ → Type 0) → List ℕ → List ℕ → List ℕ → List ℕ → Outcome → Type 0
-Told cs Right old new scratch left Done = Accepted cs Right new scratch left
-Told cs Right old new scratch left (Refused n) = RefusedWith cs n old new scratch left
+-- what the answer says of the output and of the scratch
+abbrev pub Told : Checks → (List ℕ → Type 0) → List ℕ → List ℕ → List ℕ → List ℕ → Result (Unit {0}) Refusal → Type 0
+Told cs Right old new scratch left (Ok u) = Accepted cs Right new scratch left
+Told cs Right old new scratch left (Err e) = RefusedWith cs (number e) old new scratch left
 
 -- the word of the coefficients at the shift
-abbrev pub Encoded : ℕ → List ℕ → ℕ → List ℕ → List ℕ → List ℕ → List ℕ → List ℕ → Outcome → Type 0
+abbrev pub Encoded : ℕ → List ℕ → ℕ → List ℕ → List ℕ → List ℕ → List ℕ → List ℕ → Result (Unit {0}) Refusal → Type 0
 Encoded m bs σ coefficients old new scratch left =
     Told (encode_checks m bs σ coefficients (length old) (length scratch)) (λ w. w ≡ word_at (symbols m) σ (length bs) bs coefficients) old new scratch left
 
@@ -58,6 +48,6 @@ pub record CoefficientsAt (m : ℕ) (bs : List ℕ) (σ : ℕ) (word p : List �
   pub word-is : word ≡ word_at (symbols m) σ (length bs) bs p
 
 -- the coefficients of the word at the shift
-abbrev pub Decoded : ℕ → List ℕ → ℕ → List ℕ → List ℕ → List ℕ → List ℕ → List ℕ → Outcome → Type 0
+abbrev pub Decoded : ℕ → List ℕ → ℕ → List ℕ → List ℕ → List ℕ → List ℕ → List ℕ → Result (Unit {0}) Refusal → Type 0
 Decoded m bs σ word old new scratch left =
     Told (decode_checks m bs σ word (length old) (length scratch)) (CoefficientsAt m bs σ word) old new scratch left

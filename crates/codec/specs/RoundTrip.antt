@@ -1,5 +1,5 @@
 -- Decoding after encoding gives the coefficients back, and encoding after decoding the word, at each modulus, each basis and each shift. Assumes nothing.
-use Rattle.std.specs.Prelude.{◌≡◌, refl, List, ◌++◌, ℕ, ◌-◌, ◌^◌, ◌≤◌, length}
+use Rattle.std.specs.Prelude.{◌≡◌, refl, List, ◌++◌, ℕ, ◌-◌, ◌^◌, ◌≤◌, length, Result, Ok, Err}
 use Rattle.std.proofs.Common.{sym, ◌∙◌, subst, inl, inr, arith}
 use Rattle.lists.specs.All.{All, Below, below_stable}
 use Rattle.lists.specs.Answers.{Checks, Passes, not_refused, answers-after, passes-each}
@@ -15,8 +15,7 @@ use Rattle.poly.specs.Shift.{word_at}
 use Rattle.poly.proofs.Shift.{decode_unique_at}
 use Rattle.space.specs.Setting.{setting_checks}
 use Rattle.space.specs.Sound.{Sound, sound, sound_field, setting_numbered}
-use Rattle.codec.specs.declared.Outcome.{Outcome}
-use Rattle.codec.specs.declared.Outcome.TheVariants.{Done, Refused}
+use Rattle.refusals.specs.declared.Refusal.{Refusal}
 use Rattle.codec.specs.Calls.{length_checks, symbol_checks, word_checks, encode_checks, decode_checks, Encoded, Decoded}
 use Rattle.codec.specs.Checks.{early_checks, early_numbered}
 use Rattle.lists.specs.Lengths.{lengths-right, lengths-passed}
@@ -62,8 +61,8 @@ module _ (m : ℕ) (bs : List ℕ) (σ : ℕ) where
     length_word p w e = subst (λ (l : List ℕ). length l ≡ 2 ^ length bs) (sym e) (length_tab (2 ^ length bs) (λ i. eval (symbols m) p ((symbols m).◌⊕◌ σ (elem (symbols m) bs i))))
 
   -- what is decoded from an encoded word, by a call with enough room, is the coefficients
-  pub decode_encoded : (p w w' s s' c c' t t' : List ℕ) (r : Outcome) → Encoded m bs σ p w w' s s' Done
-      → length c ≡ 2 ^ (length bs - 3) → scratch_for (length bs) ≤ length t → Decoded m bs σ w' c c' t t' r → (r ≡ Done) × (c' ≡ p)
+  pub decode_encoded : (p w w' s s' c c' t t' : List ℕ) (r : Result (Unit {0}) Refusal) → Encoded m bs σ p w w' s s' (Ok tt)
+      → length c ≡ 2 ^ (length bs - 3) → scratch_for (length bs) ≤ length t → Decoded m bs σ w' c c' t t' r → (r ≡ Ok tt) × (c' ≡ p)
   decode_encoded p w w' s s' c c' t t' r e lc lt = by r
     where
       before : Past (length p) (length w) (length s) × Passes (symbol_checks m p)
@@ -84,13 +83,13 @@ module _ (m : ℕ) (bs : List ℕ) (σ : ℕ) where
           (record { setting = before.0.setting; lengths = (lc, length_word S p w' e.right, lt) })
           (word-passes S p w' lp sp e.right)
 
-      by : (r : Outcome) → Decoded m bs σ w' c c' t t' r → (r ≡ Done) × (c' ≡ p)
-      by Done d = (refl, decode_unique_at (sound_field S) σ S.shift (length bs) bs S.basis c' p d.right.count lp d.right.elements sp (sym d.right.word-is ∙ e.right))
-      by (Refused n) d = absurd (not_refused (decode_checks m bs σ w' (length c) (length t)) fine d.refuses)
+      by : (r : Result (Unit {0}) Refusal) → Decoded m bs σ w' c c' t t' r → (r ≡ Ok tt) × (c' ≡ p)
+      by (Ok u) d = (refl, decode_unique_at (sound_field S) σ S.shift (length bs) bs S.basis c' p d.right.count lp d.right.elements sp (sym d.right.word-is ∙ e.right))
+      by (Err x) d = absurd (not_refused (decode_checks m bs σ w' (length c) (length t)) fine d.refuses)
 
   -- what is encoded from decoded coefficients, by a call with enough room, is the word
-  pub encode_decoded : (w c c' s s' v v' t t' : List ℕ) (r : Outcome) → Decoded m bs σ w c c' s s' Done
-      → length v ≡ 2 ^ length bs → scratch_for (length bs) ≤ length t → Encoded m bs σ c' v v' t t' r → (r ≡ Done) × (v' ≡ w)
+  pub encode_decoded : (w c c' s s' v v' t t' : List ℕ) (r : Result (Unit {0}) Refusal) → Decoded m bs σ w c c' s s' (Ok tt)
+      → length v ≡ 2 ^ length bs → scratch_for (length bs) ≤ length t → Encoded m bs σ c' v v' t t' r → (r ≡ Ok tt) × (v' ≡ w)
   encode_decoded w c c' s s' v v' t t' r d lv lt = by r
     where
       before : Past (length c) (length w) (length s) × Passes (word_checks m bs σ w)
@@ -102,6 +101,6 @@ module _ (m : ℕ) (bs : List ℕ) (σ : ℕ) where
           (record { setting = before.0.setting; lengths = (d.right.count, lv, lt) })
           (inr ((λ f. f d.right.elements), refl))
 
-      by : (r : Outcome) → Encoded m bs σ c' v v' t t' r → (r ≡ Done) × (v' ≡ w)
-      by Done e = (refl, e.right ∙ sym d.right.word-is)
-      by (Refused n) e = absurd (not_refused (encode_checks m bs σ c' (length v) (length t)) fine e.refuses)
+      by : (r : Result (Unit {0}) Refusal) → Encoded m bs σ c' v v' t t' r → (r ≡ Ok tt) × (v' ≡ w)
+      by (Ok u) e = (refl, e.right ∙ sym d.right.word-is)
+      by (Err x) e = absurd (not_refused (encode_checks m bs σ c' (length v) (length t)) fine e.refuses)

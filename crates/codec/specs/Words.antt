@@ -1,11 +1,13 @@
 -- Words from coefficients and back, in a setting that passed its checks.
-use Rattle.std.specs.Prelude.{◌≡◌, ◌⊎◌, List, ℕ, ◌-◌, ◌^◌, ◌≤◌, length}
+use Rattle.std.specs.Prelude.{◌≡◌, ◌⊎◌, List, ℕ, ◌-◌, ◌^◌, ◌≤◌, length, Result, Ok, Err}
 use Rattle.lists.specs.All.{Below}
 use Rattle.field.specs.Binary.{degree}
 use Rattle.field.specs.Symbols.{symbols}
 use Rattle.poly.specs.Codeword.{Codeword}
 use Rattle.poly.specs.Shift.{word_at, CodewordAt}
 use Rattle.poly.specs.Blocks.{block_coeffs}
+use Rattle.refusals.specs.declared.Refusal.{Refusal}
+use Rattle.refusals.specs.declared.Refusal.TheVariants.{NoSymbol, NoCodeword}
 use Rattle.space.specs.Ready.{Ready}
 use Rattle.space.specs.declared.Setting.{Setting}
 use Rattle.codec.specs.Calls.{CoefficientsAt}
@@ -24,17 +26,18 @@ InBlockZero s bs word scratch =
     Below (2 ^ degree s.field.modulus) word × (length word ≡ 2 ^ s.space.k) × Codeword (symbols s.field.modulus) s.space.k bs word
     × (block s.space.k 0 scratch ≡ block_coeffs (symbols s.field.modulus) s.space.k bs word 0)
 
--- the word of the coefficients; or 9, and the word as it came
-abbrev pub EncodedWith : Setting → List ℕ → List ℕ → List ℕ → ℕ → Type 0
-EncodedWith s p old new r =
-    ((r ≡ 0) × Below (2 ^ degree s.field.modulus) p
-    × ((bs : List ℕ) → Ready s.field.modulus bs s → new ≡ word_at (symbols s.field.modulus) s.shift (length bs) bs p))
-    ⊎ ((r ≡ 9) × (Below (2 ^ degree s.field.modulus) p → ⊥) × (new ≡ old))
+-- the word of the coefficients; or a coefficient is no symbol, and the word as it came
+abbrev pub EncodedWith : Setting → List ℕ → List ℕ → List ℕ → Result (Unit {0}) Refusal → Type 0
+EncodedWith s p old new (Ok u) =
+    Below (2 ^ degree s.field.modulus) p
+    × ((bs : List ℕ) → Ready s.field.modulus bs s → new ≡ word_at (symbols s.field.modulus) s.shift (length bs) bs p)
+EncodedWith s p old new (Err e) = (e ≡ NoSymbol) × (Below (2 ^ degree s.field.modulus) p → ⊥) × (new ≡ old)
 
--- the coefficients of the word; or 9 or 10, and the coefficients as they came
-abbrev pub DecodedWith : Setting → List ℕ → List ℕ → List ℕ → ℕ → Type 0
-DecodedWith s word old new r =
-    ((r ≡ 0) × Below (2 ^ degree s.field.modulus) word × ((bs : List ℕ) → Ready s.field.modulus bs s → CoefficientsAt s.field.modulus bs s.shift word new))
-    ⊎ (((r ≡ 9) × (Below (2 ^ degree s.field.modulus) word → ⊥) × (new ≡ old))
-    ⊎ ((r ≡ 10) × Below (2 ^ degree s.field.modulus) word
-    × ((bs : List ℕ) → Ready s.field.modulus bs s → CodewordAt (symbols s.field.modulus) s.shift (length bs) bs word → ⊥) × (new ≡ old)))
+-- the coefficients of the word; or no symbols or no codeword, and the coefficients as they came
+abbrev pub DecodedWith : Setting → List ℕ → List ℕ → List ℕ → Result (Unit {0}) Refusal → Type 0
+DecodedWith s word old new (Ok u) =
+    Below (2 ^ degree s.field.modulus) word × ((bs : List ℕ) → Ready s.field.modulus bs s → CoefficientsAt s.field.modulus bs s.shift word new)
+DecodedWith s word old new (Err e) =
+    ((e ≡ NoSymbol) × (Below (2 ^ degree s.field.modulus) word → ⊥) × (new ≡ old))
+    ⊎ ((e ≡ NoCodeword) × Below (2 ^ degree s.field.modulus) word
+    × ((bs : List ℕ) → Ready s.field.modulus bs s → CodewordAt (symbols s.field.modulus) s.shift (length bs) bs word → ⊥) × (new ≡ old))

@@ -12,6 +12,7 @@ ghost use Rattle.codec.specs.Scratch.{scratch_for};
 use field::modulus::all_symbols;
 use novel::powers_of;
 use novel::shift::shift_powers;
+use refusals::Refusal;
 use space::Setting;
 use transform::blocks::is_codeword;
 use transform::slices::{copy, from_lane};
@@ -33,20 +34,25 @@ fn read_coefficients(s: Setting, coefficients: &mut [u16], scratch: &mut [u16])
 }
 
 // Checks 9 and 10, then the coefficients: those of P(x + shift), and from them those of P.
-pub fn decode_with(s: Setting, word: &[u16], coefficients: &mut [u16], scratch: &mut [u16]) -> u8
+pub fn decode_with(
+    s: Setting,
+    word: &[u16],
+    coefficients: &mut [u16],
+    scratch: &mut [u16],
+) -> Result<(), Refusal>
     requires { Usable s × Lengths s coefficients.old word.now scratch.old }
     ensures { DecodedWith s word.now coefficients.old coefficients.new result }
 {
     let f = s.field;
     let images = s.space.images;
     let n = word.len();
-    if all_symbols(f, word) {
-        if is_codeword(f, &images, s.space.k, word, &mut scratch[..n]) {
-            read_coefficients(s, coefficients, scratch);
-            shift_powers(f, s.shift, s.space.k - 3, coefficients);
-            return 0;
-        }
-        return 10;
+    if !all_symbols(f, word) {
+        return Err(Refusal::NoSymbol);
     }
-    9
+    if !is_codeword(f, &images, s.space.k, word, &mut scratch[..n]) {
+        return Err(Refusal::NoCodeword);
+    }
+    read_coefficients(s, coefficients, scratch);
+    shift_powers(f, s.shift, s.space.k - 3, coefficients);
+    Ok(())
 }

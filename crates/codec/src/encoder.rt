@@ -11,6 +11,7 @@ ghost use Rattle.codec.specs.Words.{Lengths, EncodedWith};
 use evaluation::{taken, write_lanes};
 use field::modulus::all_symbols;
 use novel::shift::shift_powers;
+use refusals::Refusal;
 use space::Setting;
 use transform::slices::transpose;
 
@@ -26,17 +27,23 @@ fn write_word(s: Setting, coefficients: &[u16], word: &mut [u16], scratch: &mut 
 }
 
 // Check 9, then the word: that of P(x + shift) without the shift.
-pub fn encode_with(s: Setting, coefficients: &[u16], word: &mut [u16], scratch: &mut [u16]) -> u8
+pub fn encode_with(
+    s: Setting,
+    coefficients: &[u16],
+    word: &mut [u16],
+    scratch: &mut [u16],
+) -> Result<(), Refusal>
     requires { Usable s × Lengths s coefficients.now word.old scratch.old }
     ensures { EncodedWith s coefficients.now word.old word.new result }
 {
     let f = s.field;
-    if all_symbols(f, coefficients) {
-        let n = coefficients.len();
-        let mut moved = taken(coefficients, 0, n);
-        shift_powers(f, s.shift, s.space.k - 3, &mut moved[..n]);
-        write_word(s, &moved[..n], word, scratch);
-        return 0;
+    if !all_symbols(f, coefficients) {
+        return Err(Refusal::NoSymbol);
     }
-    9
+    let n = coefficients.len();
+    let mut moved = taken(coefficients, 0, n);
+    let front = &mut moved[..n];
+    shift_powers(f, s.shift, s.space.k - 3, front);
+    write_word(s, front, word, scratch);
+    Ok(())
 }

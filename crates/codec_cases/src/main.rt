@@ -4,76 +4,54 @@
 // zeros in the scratch, held to the file stdout. Outputs come in as nines, the scratch as sevens.
 #![tactic(auto)]
 
+mod case;
 mod largest;
-mod text;
 
-use case_lines::{cleared, figure, numbers};
+use anyhow::Result;
+use case::Case;
+use case_lines::{Symbols, zeros};
 use codec::Outcome;
-use streams::{STDIN_FILENO, STDOUT_FILENO};
-use text::{at_most, decimal, list, part};
+use std::alloc::Global;
+use std::fmt;
 
-fn outcome(label: &[u8], r: Outcome) {
-    io::write_all(STDOUT_FILENO, label);
-    match r {
-        Outcome::Done => {
-            io::write_all(STDOUT_FILENO, b": done,");
-        }
-        Outcome::Refused(n) => {
-            figure(b": refused ", n as u64);
-            io::write_all(STDOUT_FILENO, b",");
-        }
-    }
-}
+// What came of a call, beside its output.
+#[derive(Clone, Copy)]
+struct Answer(Outcome);
 
-// ---- the cases of the file stdin
-
-fn show(label: &[u8], r: Outcome, out: &[u16], scratch: &[u16]) {
-    outcome(label, r);
-    numbers(out);
-    cleared(scratch);
-}
-
-fn call(line: &[u8], basis: &[u16], given: &[u16], out: &mut [u16], scratch: &mut [u16]) {
-    let modulus = decimal(part(line, 2));
-    let shift = (decimal(part(line, 4)) % 65536) as u16;
-    if decimal(part(line, 1)) == 0 {
-        let r = codec::encode(modulus, basis, shift, given, out, scratch);
-        show(part(line, 0), r, out, scratch);
-    } else {
-        let r = codec::decode(modulus, basis, shift, given, out, scratch);
-        show(part(line, 0), r, out, scratch);
-    }
-}
-
-// With what is lent: the output and the scratch, in the lengths that the case gives.
-fn lent(line: &[u8], basis: &[u16], given: &[u16]) {
-    let mut out = [9u16; 64];
-    let mut scratch = [7u16; 256];
-    let n = at_most(&out, decimal(part(line, 6)) as usize);
-    let room = at_most(&scratch, decimal(part(line, 7)) as usize);
-    call(line, basis, given, &mut out[..n], &mut scratch[..room]);
-}
-
-fn case(line: &[u8]) {
-    let mut basis = [0u16; 16];
-    let mut given = [0u16; 64];
-    let k = list(part(line, 3), &mut basis);
-    let n = list(part(line, 5), &mut given);
-    lent(line, &basis[..k], &given[..n]);
-}
-
-// One case after the other, each a line.
-fn cases(text: &[u8]) {
-    for line in text.split(|c| *c == b'\n') {
-        if !line.is_empty() {
-            case(line);
+impl fmt::Display for Answer {
+    fn fmt<W: fmt::Write>(&self, f: &mut fmt::Formatter<W>) -> fmt::Result {
+        match self.0 {
+            Outcome::Done => write!(f, "done"),
+            Outcome::Refused(n) => write!(f, "refused {n}"),
         }
     }
 }
 
-fn main() {
-    let mut text = io::buffer();
-    let n = io::read_full(STDIN_FILENO, &mut text);
-    cases(&text[..n]);
-    largest::largest();
+fn call(case: &Case, out: &mut [u16], scratch: &mut [u16]) -> Answer {
+    let modulus = case.modulus;
+    let shift = case.shift;
+    if case.decodes {
+        return Answer(codec::decode(modulus, &case.basis, shift, &case.given, out, scratch));
+    }
+    Answer(codec::encode(modulus, &case.basis, shift, &case.given, out, scratch))
+}
+
+fn show(rt: &impl Print, alloc: Global, case: &Case) -> Result<()> {
+    let mut out = vec![in alloc; 9u16; case.output]?;
+    let mut scratch = vec![in alloc; 7u16; case.scratch]?;
+    let answer = call(case, &mut out, &mut scratch);
+    let label = case.label.as_str();
+    let symbols = Symbols(&out);
+    println!(rt; "{label}: {answer},{symbols}, zeros {}", zeros(&scratch))?;
+    Ok(())
+}
+
+fn main(rt: HostRuntime) -> Result<()> {
+    let alloc = rt.alloc();
+    for line in rt.lines(alloc) {
+        let line = line?;
+        let case = case::read(alloc, line.as_str())?;
+        show(&rt, alloc, &case)?;
+    }
+    largest::largest(&rt, alloc)
 }

@@ -25,7 +25,7 @@ use Rattle.stored.specs.Short.{short-proof, short-file}
 use Rattle.stored.specs.declared.Reading.{Reading}
 use Rattle.coins.specs.Tally.{Readable}
 use Rattle.coins.specs.Totals.{Off}
-use Rattle.coins.specs.declared.Distance.{Distance}
+use Rattle.std.specs.Prelude.{Option}
 
 -- the dimension is small
 pub small_dimension : (f : List ℕ) → Passes (file_checks f) → length f ≤ file_limit → dim_in f ≤ small_dim
@@ -43,10 +43,10 @@ module _ (f : List ℕ) (r : Reading) (a : Readable f r) where
 
   -- the setting that was read is ready, by its own modulus
   set : Ready r.setting.field.modulus (basis_in f) r.setting
-  set = own_ready (read_ready f r a.0 a.1)
+  set = own_ready (read_ready f r a)
 
   pub small : length f ≤ file_limit → k ≤ small_dim
-  small h = omega (arith, read_dimension f r a.0 a.1, small_dimension f (read-passes f r a.0 a.1) h)
+  small h = omega (arith, read_dimension f r a, small_dimension f (read-passes f r a) h)
 
   module _ (h : length f ≤ file_limit) where
     pub count-is : symbol_count k ≡ 2 ^ k
@@ -69,16 +69,16 @@ module _ (f : List ℕ) (r : Reading) (a : Readable f r) where
           basis = basis_in f;
           ready = set;
           whole = ap length e ∙ length_numbers r.narrow f r.word (2 ^ k);
-          symbols = subst (Below (2 ^ degree r.setting.field.modulus)) (sym e) (read_below f r a.0 a.1);
+          symbols = subst (Below (2 ^ degree r.setting.field.modulus)) (sym e) (read_below f r a);
         }
 
     -- how far it is off
-    pub word_off : (w : List ℕ) (d : Distance) → w ≡ numbers_at r.narrow f r.word (2 ^ k) → ((bs : List ℕ) → Ready r.setting.field.modulus bs r.setting → Off r.setting.field.modulus bs w d)
+    pub word_off : (w : List ℕ) (d : Option ℕ) → w ≡ numbers_at r.narrow f r.word (2 ^ k) → ((bs : List ℕ) → Ready r.setting.field.modulus bs r.setting → Off r.setting.field.modulus bs w d)
         → Off (modulus_in f) (basis_in f) (word_in f) d
     unfolding word_in
     word_off w d e o =
-        let modulus : r.setting.field.modulus ≡ modulus_in f = (read_ready f r a.0 a.1).modulus in
-        let dimension : k ≡ dim_in f = read_dimension f r a.0 a.1 in
-        let places = read_places f r a.0 a.1 in
+        let modulus : r.setting.field.modulus ≡ modulus_in f = (read_ready f r a).modulus in
+        let dimension : k ≡ dim_in f = read_dimension f r a in
+        let places = read_places f r a in
         let same : w ≡ word_in f = e ∙ (λ i. numbers_at (places.narrow i) f (places.word i) (2 ^ dimension i)) in
         transport (λ i. Off (modulus i) (basis_in f) (same i) d) (o (basis_in f) set)

@@ -1,5 +1,5 @@
 -- The counter's answer: from its stages, and that it is one. Assumes nothing.
-use Rattle.std.specs.Prelude.{◌≡◌, refl, ◌↔◌, ℕ, ◌^◌, ◌≤◌, ◌<◌, length}
+use Rattle.std.specs.Prelude.{◌≡◌, refl, ◌↔◌, Result, Ok, Err, ℕ, ◌^◌, ◌≤◌, ◌<◌, length}
 use Rattle.std.proofs.Common.{sym, ◌∙◌, inl, pow_pos}
 use Rattle.std.proofs.Math.Path.{ap, subst}
 use Rattle.std.proofs.Math.Logic.{inr}
@@ -7,7 +7,11 @@ use mathlib.Core.List.{List, List-discrete}
 use Rattle.std.proofs.Math.Decide.{ℕ_discrete}
 use native.Mathlib.Omega.{arith}
 use Rattle.lists.specs.All.{Below, All-at}
-use Rattle.lists.specs.Answers.{Answers, Passes, answers_one}
+use Rattle.lists.specs.Answers.{Passes, Refuses}
+use Rattle.refusals.specs.Gives.{gives_one}
+use Rattle.refusals.specs.Refusal.{number}
+use Rattle.refusals.specs.declared.Refusal.{Refusal}
+use Rattle.refusals.specs.declared.Refusal.TheVariants.{Length}
 use Rattle.field.specs.Checks.{not-less}
 use Rattle.field.specs.Laws.{Ops, IsField}
 use Rattle.field.specs.Symbols.{symbols}
@@ -18,37 +22,30 @@ use Rattle.proximity.specs.Verdict.{verdict, degree_exists}
 use Rattle.proximity.specs.Verifier.{Accepts, positions, leaf_dim}
 use Rattle.verifier.specs.Checker.{symbols_at, reads_of}
 use Rattle.stored.specs.Accepted.{Accepted}
-use Rattle.stored.proofs.Accepted.{accepted, told_refuses}
+use Rattle.stored.proofs.Accepted.{accepted}
 use Rattle.stored.proofs.CheckLaws.{coin_passes}
 use Rattle.stored.specs.File.{file_limit, word_start, proof_start, form_in, modulus_in, degree_in, dim_in, basis_in, narrow_in, word_in, proof_in}
 use Rattle.stored.specs.InRange.{symbols-below}
 use Rattle.stored.specs.Packed.{length_numbers}
 use Rattle.stored.specs.Passed.{length_basis}
 use Rattle.stored.specs.Reader.{file_checks}
-use Rattle.stored.specs.declared.Reading.{Reading}
 use Rattle.coins.specs.Counted.{Counted, counted-one, counted_none}
 use Rattle.coins.specs.OffLaws.{off_one}
-use Rattle.coins.specs.Totals.{Rejects, Swept, count_checks, Totals, no_counts, Told}
+use Rattle.coins.specs.Totals.{Rejects, Swept, count_checks, Totals, Told}
 use Rattle.coins.specs.declared.Counts.{Counts}
 
 -- ---- from the stages
 
-module _ (f : List ℕ) (r : Counts) where
-  told-number : (n : ℕ) → 0 < n → Answers (count_checks f) n → r ≡ no_counts n → Told f r
-  unfolding no_counts
-  told-number n h a e =
-      let same : r.refusal ≡ n = ap (λ (x : Counts). x.refusal) e in
-      inr ((omega arith, subst (Answers (count_checks f)) (sym same) a), e ∙ ap no_counts (sym same))
-
-  pub told-long : file_limit < length f → r ≡ no_counts 6 → Told f r
-  told-long h e = told-number 6 (omega arith) (inl (h, refl)) e
+module _ (f : List ℕ) where
+  pub told-long : file_limit < length f → Told f (Err Length)
+  told-long h = (omega arith, inl (h, refl))
 
   module _ (h : length f ≤ file_limit) where
-    pub told_refused : (s : Reading) → Rattle.stored.specs.Reader.Told (file_checks f) f s → (s.refusal ≡ 0 → ⊥) → r ≡ no_counts s.refusal → Told f r
-    told_refused s t n g = let a = told_refuses f (file_checks f) s t n in told-number s.refusal a.0 (inr ((λ k. omega arith), a.1)) g
+    pub told_refused : (e : Refusal) → Refuses (file_checks f) (number e) → Told f (Err e)
+    told_refused e (l, a) = (l, inr ((λ k. omega arith), a))
 
-    pub told_totals : Passes (file_checks f) → r.refusal ≡ 0 → Totals f r → Told f r
-    told_totals p z t = inl (inr ((λ k. omega arith), p), z, t)
+    pub told_totals : Passes (file_checks f) → (c : Counts) → Totals f c → Told f (Ok c)
+    told_totals p c t = (inr ((λ k. omega arith), p), t)
 
 -- ---- an accepted file
 
@@ -113,13 +110,13 @@ module _ (f : List ℕ) where
     rejected : (coin : ℕ) → coin < 2 ^ R (dim_in f) → (AcceptsAt coin → ⊥) → Rejects f coin
     rejected coin h n =
         let (g, l) = degree_exists field (dim (dim_in f)) (basis_in f) (word_in f) (proof_in f) basis word-long proof_length coin (read_below coin) n in
-        (record { reads = reads_of (dim_in f) coin; degree = g; dimension = leaf_dim (dim (dim_in f)) coin }, (coin_passes f coin p h, refl, n, l, refl))
+        (record { reads = reads_of (dim_in f) coin; degree = g; dimension = leaf_dim (dim (dim_in f)) coin }, (coin_passes f coin p h, (refl, n, l, refl)))
 
     -- no coin rejects exactly when every coin accepts
     pub rejects_none : {c : ℕ} → Counted (Rejects f) (2 ^ R (dim_in f)) c → (c ≡ 0) ↔ ((coin : ℕ) → coin < 2 ^ R (dim_in f) → AcceptsAt coin)
     rejects_none a =
         let none = counted_none (Rejects f) (2 ^ R (dim_in f)) a in
-        ((λ z coin h. accepts_stable coin (λ n. none.0 z coin h (rejected coin h n))), λ g. none.1 (λ coin h (r, (q, e, s, l, d)). s (g coin h)))
+        ((λ z coin h. accepts_stable coin (λ n. none.0 z coin h (rejected coin h n))), λ g. none.1 (λ coin h (r, (q, (e, s, l, d))). s (g coin h)))
 
 -- ---- the answer is one
 
@@ -133,14 +130,11 @@ swept_one {f} t u = (
 )
 
 module _ (f : List ℕ) where
-  same_totals : Passes (file_checks f) → (r s : Counts) → r.refusal ≡ s.refusal → Totals f r → Totals f s → r ≡ s
-  same_totals p r s e t u =
+  same_totals : (c d : Counts) → Passes (count_checks f) → Totals f c → Totals f d → c ≡ d
+  same_totals c d p t u =
       let (k, coins, rejects, most) = swept_one t.swept u.swept in
-      let off : r.off ≡ s.off = off_one (modulus_in f) (basis_in f) (held f p).records.setting (word_in f) (word_length f) r.off s.off t.off u.off in
-      λ i. record { refusal = e i; k = k i; coins = coins i; rejects = rejects i; most = most i; off = off i }
+      let off : c.off ≡ d.off = off_one (modulus_in f) (basis_in f) (held f (counted-file f p)).records.setting (word_in f) (word_length f) c.off d.off t.off u.off in
+      λ i. record { sweep = record { k = k i; coins = coins i; rejects = rejects i; most = most i }; off = off i }
 
-  pub one-count : (r s : Counts) → Told f r → Told f s → r ≡ s
-  one-count r s (inl (p, z, t)) (inl (q, y, u)) = same_totals (counted-file f p) r s (z ∙ sym y) t u
-  one-count r s (inl (p, z, t)) (inr ((l, b), g)) = absurd (omega (arith, answers_one (count_checks f) p b))
-  one-count r s (inr ((l, a), e)) (inl (q, y, u)) = absurd (omega (arith, answers_one (count_checks f) a q))
-  one-count r s (inr ((l, a), e)) (inr ((m, b), g)) = e ∙ ap no_counts (answers_one (count_checks f) a b) ∙ sym g
+  pub one-count : (r s : Result Counts Refusal) → Told f r → Told f s → r ≡ s
+  one-count = gives_one (Totals f) (count_checks f) same_totals

@@ -1,6 +1,8 @@
 -- What the counter over all coins of a stored file answers: the length of the file, the file's own checks, and then the totals. Definitions only.
-use Rattle.std.specs.Prelude.{◌≡◌, ◌⊎◌, List, ◌∷◌, ℕ, zero, suc, ◌^◌, ◌<◌, max, length}
-use Rattle.lists.specs.Answers.{Checks, Passes, Refuses}
+use Rattle.std.specs.Prelude.{◌≡◌, Option, Some, None, Result, Ok, List, ◌∷◌, ℕ, zero, suc, ◌^◌, ◌<◌, max, length}
+use Rattle.lists.specs.Answers.{Checks}
+use Rattle.refusals.specs.Gives.{Gives}
+use Rattle.refusals.specs.declared.Refusal.{Refusal}
 use Rattle.field.specs.Symbols.{symbols}
 use Rattle.correction.specs.Differences.{differences}
 use Rattle.correction.specs.Near.{NoneNear}
@@ -13,14 +15,12 @@ use Rattle.stored.specs.File.{file_limit, modulus_in, dim_in, basis_in, word_in}
 use Rattle.stored.specs.Reader.{file_checks}
 use Rattle.coins.specs.Counted.{Counted}
 use Rattle.coins.specs.declared.Counts.{Counts}
-use Rattle.coins.specs.declared.Distance.{Distance}
-use Rattle.coins.specs.declared.Distance.TheVariants.{Near, Far}
 
 -- ---- the coins
 
 -- the checker's answer on the file at this coin is reject
 abbrev pub Rejects : List ℕ → ℕ → Type 0
-Rejects f coin = (r : Rejection) × AnsweredFile f coin (Reject r)
+Rejects f coin = (r : Rejection) × AnsweredFile f coin (Ok (Reject r))
 
 -- the largest of g 0 to g (n - 1), and 0 where n is 0
 abbrev pub most_of : ℕ → (ℕ → ℕ) → ℕ
@@ -41,10 +41,10 @@ pub record OffBy (m : ℕ) (bs w : List ℕ) (n : ℕ) (c : List ℕ) : Type 0 w
   pub near : Rattle.correction.specs.Near.Near (symbols m) (length bs) bs w c
   pub count : n ≡ differences w c
 
--- how far a word is from the codewords, by its correction: the number of differences that it finds, or far where it refuses with 13
-abbrev pub Off : ℕ → List ℕ → List ℕ → Distance → Type 0
-Off m bs w (Near n) = (c : List ℕ) × OffBy m bs w n c
-Off m bs w Far = NoneNear (symbols m) (length bs) bs w
+-- how far a word is from the codewords, by its correction: the number of differences that it finds, or none where it refuses with 13
+abbrev pub Off : ℕ → List ℕ → List ℕ → Option ℕ → Type 0
+Off m bs w (Some n) = (c : List ℕ) × OffBy m bs w n c
+Off m bs w None = NoneNear (symbols m) (length bs) bs w
 
 -- ---- the answer
 
@@ -54,12 +54,9 @@ count_checks f = (6, file_limit < length f) ∷ file_checks f
 
 -- what all coins tell, and how far the word is off
 pub record Totals (f : List ℕ) (r : Counts) : Type 0 where
-  pub swept : Swept f r.k r.coins r.rejects r.most
+  pub swept : Swept f r.sweep.k r.sweep.coins r.sweep.rejects r.sweep.most
   pub off : Off (modulus_in f) (basis_in f) (word_in f) r.off
 
-unfoldable pub no_counts : ℕ → Counts
-no_counts n = record { refusal = n; k = 0; coins = 0; rejects = 0; most = 0; off = Near 0 }
-
--- 0 and the totals; or the number of the first check that refuses, and no totals
-abbrev pub Told : List ℕ → Counts → Type 0
-Told f r = (Passes (count_checks f) × (r.refusal ≡ 0) × Totals f r) ⊎ (Refuses (count_checks f) r.refusal × (r ≡ no_counts r.refusal))
+-- the totals; or the first check that refuses
+abbrev pub Told : List ℕ → Result Counts Refusal → Type 0
+Told f = Gives (count_checks f) (Totals f)

@@ -6,7 +6,6 @@ ghost use Rattle.correction.specs.Start.{InSetting};
 ghost use Rattle.stored.specs.File.{small_dim};
 ghost use Rattle.coins.specs.Totals.{Off};
 
-use super::Distance;
 use correction::SCRATCH;
 use correction::nearest::correct_with;
 use space::Setting;
@@ -18,18 +17,13 @@ fn no_scratch() -> [u16; SCRATCH << SMALL]
     [0u16; SCRATCH << SMALL]
 }
 
-// The differences that the correction of the word finds; far where it finds no codeword.
-pub fn off(setting: Setting, word: &[u16]) -> Distance
+// The differences that the correction of the word finds; none where it finds no codeword.
+pub fn off(setting: Setting, word: &[u16]) -> Option<usize>
     requires { InSetting setting word.now × (length word.now ≤ 2 ^ small_dim) }
     ensures { (bs : List ℕ) → Ready setting.field.modulus bs setting → Off setting.field.modulus bs word.now result }
 {
     let n = word.len();
     let mut corrected = small::no_word();
     let mut scratch = no_scratch();
-    let r = correct_with(setting, word, &mut corrected[..n], &mut scratch);
-    let number = r.refusal;
-    if number == 0 {
-        return Distance::Near(r.count);
-    }
-    Distance::Far
+    correct_with(setting, word, &mut corrected[..n], &mut scratch).ok()
 }

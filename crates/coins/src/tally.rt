@@ -1,43 +1,34 @@
 // The verdicts at all coins, counted.
-ghost use Rattle.std.specs.Prelude.{◌≡◌, ◌≤◌, max, length};
+ghost use Rattle.std.specs.Prelude.{◌≡◌, ◌≤◌, length};
 ghost use Rattle.stored.specs.File.{file_limit};
 ghost use Rattle.coins.specs.Tally.{rejects_in, reads_in, Readable};
 ghost use Rattle.coins.specs.Totals.{Swept};
 
 use super::{Sweep, symbols};
 use proximity::tables;
+use refusals::Refusal;
 use stored::Reading;
 use verifier::{Verdict, parts};
 
 // 1 for a rejection, else 0.
-fn rejecting(v: Verdict) -> u64
+fn rejecting(v: Result<Verdict, Refusal>) -> u64
     ensures { result ≡ rejects_in v }
 {
     match v {
-        Verdict::Accept(_) => 0,
-        Verdict::Reject(_) => 1,
-        Verdict::Refused(_) => 0,
+        Ok(Verdict::Reject(_)) => 1,
+        _ => 0,
     }
 }
 
 // The symbols read.
-fn reads(v: Verdict) -> usize
+fn reads(v: Result<Verdict, Refusal>) -> usize
     ensures { result ≡ reads_in v }
 {
     match v {
-        Verdict::Accept(n) => n,
-        Verdict::Reject(r) => r.reads,
-        Verdict::Refused(_) => 0,
+        Ok(Verdict::Accept(n)) => n,
+        Ok(Verdict::Reject(r)) => r.reads,
+        Err(_) => 0,
     }
-}
-
-fn larger(a: usize, b: usize) -> usize
-    ensures { result ≡ max a b }
-{
-    if a < b {
-        return b;
-    }
-    a
 }
 
 // All coins of an accepted file within the limit, tried one after the other.
@@ -56,12 +47,10 @@ pub fn all_coins(file: &[u8], r: Reading) -> Sweep
     let coins = 1u64 << tables::coin_bits(k);
     let mut rejects: u64 = 0;
     let mut most: usize = 0;
-    let mut coin: u64 = 0;
-    while coin < coins {
+    for coin in 0..coins {
         let v = parts::check_word(field, k, &images, &word[..n], &proof[..s], coin);
         rejects += rejecting(v);
-        most = larger(most, reads(v));
-        coin += 1;
+        most = most.max(reads(v));
     }
     Sweep {
         k,

@@ -1,13 +1,13 @@
 -- Differences counted from the front. Assumes nothing.
-use mathlib.Core.Path.{◌≡◌, refl, sym, ap, ap₂, ◌∙◌}
+use mathlib.Core.Path.{◌≡◌, refl, sym, ap, ◌∙◌}
 use mathlib.Core.List.{List, [], ◌∷◌}
-use Prim.Native.Nat.{ℕ, zero, suc, ◌+◌, ◌≤◌, ◌<◌}
+use Prim.Native.Nat.{ℕ, zero, suc, ◌+◌, ◌<◌}
 use native.Mathlib.Nat.{zero-add, add_assoc}
 use native.Mathlib.Numerals.{add-one}
 use native.Mathlib.Omega.{arith}
 use borrow.Author.Tests.{eq-eqb, ne_eqb}
 use lib.Dec.{eqb}
-use lib.ListN.{length, get_or, drop, drop_of_length-le}
+use lib.ListN.{length, get_or, drop}
 use Rattle.lists.specs.Pick.{pick, pick_true, pick_false}
 use Rattle.correction.specs.Differences.{differences}
 
@@ -33,6 +33,3 @@ module _ (xs ys : List ℕ) (i n : ℕ) (h : i < length xs) (l : i < length ys) 
       (differences-from i xs ys h l ∙ ap (λ (t : ℕ). t + differences (drop (suc i) xs) (drop (suc i) ys)) (pick_false 0 1 (ne_eqb (get_or xs i 0) (get_or ys i 0) e)))
       ∙ sym (add_assoc n 1 (differences (drop (suc i) xs) (drop (suc i) ys)))
       ∙ ap (λ (j : ℕ). n + 1 + differences (drop j xs) (drop j ys)) (sym (add-one i))
-
-pub differences-end : (i : ℕ) (xs ys : List ℕ) → length xs ≤ i → length ys ≤ i → differences (drop i xs) (drop i ys) ≡ 0
-differences-end i xs ys h l = ap₂ differences (drop_of_length-le xs {i = i} h) (drop_of_length-le ys {i = i} l)

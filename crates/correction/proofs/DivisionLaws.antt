@@ -1,5 +1,5 @@
 -- A step of the division, and the division once it ends. Assumes nothing.
-use mathlib.Core.Path.{◌≡◌, refl, sym, ap, ap₂, ◌∙◌, subst}
+use mathlib.Core.Path.{◌≡◌, sym, ap, ap₂, ◌∙◌, subst}
 use mathlib.Core.Logic.{◌⊎◌, inl, inr}
 use mathlib.Core.List.{List}
 use Prim.Native.Nat.{ℕ, suc, ◌+◌, ◌*◌, ◌≤◌, ◌<◌, ◌^◌}
@@ -14,7 +14,7 @@ use Rattle.field.specs.Laws.{IsField}
 use Rattle.field.specs.Symbols.{symbols, symbols-field}
 use Rattle.field.specs.declared.Field.{Field}
 use Rattle.poly.specs.Coefficients.{coeff}
-use Rattle.correction.specs.Division.{Dividing, Step, dividing_start, dividing_next}
+use Rattle.correction.specs.Division.{Dividing, Step, dividing_next}
 use Rattle.correction.specs.Pairs.{poly_at}
 use Rattle.correction.specs.Quotient.{Divides, DividedStep, FactorOf, Divided}
 use Rattle.correction.specs.Rows.{Added}
@@ -120,15 +120,6 @@ pub record Dividing_at (q n e v at d : ℕ) (old : List ℕ) (j : ℕ) (new : Li
 module _ (q : ℕ) (irr : Irreducible q) (n e v at d : ℕ) (old : List ℕ) where
   abbrev F : IsField (symbols q)
   F = symbols-field q irr
-
-  pub division_starts : Below (2 ^ degree q) old → Dividing_at q n e v at d old d old
-  division_starts b =
-      record {
-        kept = refl;
-        below = b;
-        factor = refl;
-        dividing = λ p g. dividing_start F e d p (poly_at n (at + 4 * n) old) g.count g.elements g.low (poly_at n at old) g.multiple;
-      }
 
   pub division_next : (j : ℕ) → j < d → (new next : List ℕ) → Dividing_at q n e v at d old (suc j) new → DividedStep q n e v at j new next → Dividing_at q n e v at d old j next
   division_next j hj new next h g =

@@ -1,12 +1,12 @@
 -- The word of the candidate is the near codeword, or there is none. Assumes nothing.
 use mathlib.Core.Path.{◌≡◌, refl, sym, ap, ◌∙◌, subst}
 use mathlib.Core.Bool.{Bool, true}
-use mathlib.Core.Logic.{inl, inr}
 use mathlib.Core.List.{List}
 use Prim.Native.Nat.{ℕ, ◌+◌, ◌-◌, ◌/◌, ◌^◌, ◌≤◌, ◌<◌}
 use native.Mathlib.Omega.{arith}
 use lib.ListN.{length, get_or, take, drop}
 use lib.Seq.{ext_get_or}
+use Rattle.std.specs.Prelude.{Ok, Err}
 use Rattle.lists.specs.All.{Below, All-take, All-drop}
 use Rattle.lists.specs.Decides.{decides_true}
 use Rattle.lists.specs.Stretch.{stretch, length_stretch, get_or_stretch}
@@ -15,6 +15,7 @@ use Rattle.field.specs.Laws.{Ops}
 use Rattle.field.specs.Symbols.{symbols}
 use Rattle.poly.specs.Codeword.{word_of, Codeword}
 use Rattle.poly.specs.Blocks.{eighths}
+use Rattle.refusals.specs.declared.Refusal.TheVariants.{Far}
 use Rattle.space.specs.Ready.{Ready}
 use Rattle.space.specs.declared.Setting.{Setting}
 use Rattle.space.specs.Usable.{usable, ready_basis}
@@ -103,13 +104,11 @@ module _ {s : Setting} {word : List ℕ} (g : InSetting s word) (old work : List
               omega (arith, subst (λ (l : List ℕ). differences word l ≤ radius (2 ^ length bs)) (sym equal) near.close, long, counted)
 
     pub nearest_found : count ≤ radius (length word) → (output new : List ℕ) → Transposed (length word / 8) 8 (take (length word) scratch) output new → length output ≡ length word
-        → NearestWith s word output new 0 count
-    nearest_found h output new t lo =
-        inl (
-          refl,
-          (λ bs y. subst (Near (symbols q) (length bs) bs word) (sym (new_is bs y)) (near_word bs y h)),
-          counted g.basis g.ready ∙ ap (differences word) (sym (new_is g.basis g.ready)),
-        )
+        → NearestWith s word output new (Ok count)
+    nearest_found h output new t lo = (
+      (λ bs y. subst (Near (symbols q) (length bs) bs word) (sym (new_is bs y)) (near_word bs y h)),
+      counted g.basis g.ready ∙ ap (differences word) (sym (new_is g.basis g.ready)),
+    )
       where
         new_is : (bs : List ℕ) → Ready q bs s → new ≡ word_of (symbols q) (length bs) bs p
         new_is bs y =
@@ -118,14 +117,14 @@ module _ {s : Setting} {word : List ℕ} (g : InSetting s word) (old work : List
             (subst (λ (i : ℕ). Transposed (length word / 8) 8 (take i scratch) output new) g.whole t))
             (t.kept ∙ lo ∙ g.whole)
 
-    pub nearest_none : radius (length word) < count → (output : List ℕ) → NearestWith s word output output 13 0
-    nearest_none h output = inr (refl, (λ bs y. near_none bs y h), refl)
+    pub nearest_none : radius (length word) < count → (output : List ℕ) → NearestWith s word output output (Err Far)
+    nearest_none h output = (refl, (λ bs y. near_none bs y h), refl)
 
 -- a codeword is its own
 pub nearest_self : {s : Setting} {answer : Bool} (word work : List ℕ) → Tested s.field.modulus s.space.images s.space.k word answer work → answer ≡ true
-    → (output new : List ℕ) → new ≡ word → NearestWith s word output new 0 0
+    → (output new : List ℕ) → new ≡ word → NearestWith s word output new (Ok 0)
 nearest_self {s} word work t e output new w =
-    inl (refl, (λ bs r. subst (Near (symbols q) (length bs) bs word) (sym w) (near bs r)), sym (ap (differences word) w ∙ differences_self word))
+    ((λ bs r. subst (Near (symbols q) (length bs) bs word) (sym w) (near bs r)), sym (ap (differences word) w ∙ differences_self word))
   where
     q : ℕ
     q = s.field.modulus

@@ -2,24 +2,21 @@
 use mathlib.Core.Path.{◌≡◌, refl, ap, ap₂, ◌∙◌}
 use mathlib.Core.Logic.{◌⊎◌, inl, inr}
 use mathlib.Core.List.{List}
-use Prim.Native.Nat.{ℕ, ◌+◌, ◌-◌, ◌≤◌, ◌<◌, ◌^◌}
+use Prim.Native.Nat.{ℕ, ◌+◌, ◌-◌, ◌≤◌, ◌<◌}
 use native.Mathlib.Decide.{dec_lt}
 use native.Mathlib.Omega.{arith}
 use lib.ListN.{length, get_or}
-use Rattle.lists.specs.All.{All, Below, IsZero, All-at}
+use Rattle.lists.specs.All.{All, IsZero, All-at}
 use Rattle.lists.specs.Stretch.{Apart}
-use Rattle.field.specs.Binary.{◌⊕◌, degree, product}
+use Rattle.field.specs.Binary.{◌⊕◌, product}
 use Rattle.field.specs.Products.{accumulated}
 use Rattle.field.specs.Xor.{xor_zero_left}
 use Rattle.field.proofs.Accumulate.{length_accumulated, accumulated-at, accumulated_outside, accumulated-below}
 use Rattle.correction.specs.Rows.{Added}
 
-pub added_none : (q c from to : ℕ) (old : List ℕ) → Below (2 ^ degree q) old → Added q c from to 0 old old
-added_none q c from to old b = record { kept = refl; below = b; inside = λ i h. absurd (omega arith); outside = λ p h. refl }
-
 module _ (q c from to n : ℕ) (pos : 0 < q) (old : List ℕ) (apart : Apart n from to (length old)) (i : ℕ) (ts : List ℕ) (z : All IsZero ts) (fits : i + length ts ≤ n)
     (new : List ℕ) (s : Added q c from to i old new) where
-  pub row_apart : Apart (length ts) (from + i) (to + i) (length new)
+  row_apart : Apart (length ts) (from + i) (to + i) (length new)
   row_apart =
       record {
         first = omega (arith, s.kept, apart.first);

@@ -1,12 +1,11 @@
 -- Checks 1 to 7 as one table, and what the answers say. Assumes nothing.
-use Rattle.std.specs.Prelude.{◌≡◌, List, ◌++◌, ℕ, ◌^◌, ◌≤◌, length}
+use Rattle.std.specs.Prelude.{◌≡◌, Ok, List, ◌++◌, ℕ, ◌^◌, ◌≤◌, length}
 use Rattle.std.proofs.Common.{arith}
 use Rattle.lists.specs.Answers.{Checks, Passes, Numbered, passes-each}
 use Rattle.field.specs.Symbols.{symbols}
 use Rattle.space.specs.Setting.{setting_checks}
 use Rattle.space.specs.Sound.{Sound, sound, sound_field, setting_numbered}
 use Rattle.lists.specs.Lengths.{lengths-passed}
-use Rattle.correction.specs.declared.Correction.TheVariants.{Corrected}
 use Rattle.correction.specs.Calls.{length_checks, near_checks, CorrectedWord}
 use Rattle.correction.specs.Near.{Near, NearAt, near_shift, one_near}
 use Rattle.correction.specs.Scratch.{correction_scratch}
@@ -20,7 +19,7 @@ module _ (m : ℕ) (bs : List ℕ) (σ a b s : ℕ) where
 
 module _ (m : ℕ) (bs : List ℕ) (σ : ℕ) (word : List ℕ) where
   -- what an answered call passed
-  module _ (old new scratch left : List ℕ) (n : ℕ) (d : CorrectedWord m bs σ word old new scratch left (Corrected n)) where
+  module _ (old new scratch left : List ℕ) (n : ℕ) (d : CorrectedWord m bs σ word old new scratch left (Ok n)) where
     setting-passed : Passes (setting_checks m bs σ) × ((length word ≡ 2 ^ length bs) × (length old ≡ 2 ^ length bs) × (correction_scratch (length bs) ≤ length scratch))
     setting-passed =
         let both = passes-each (early_checks m bs σ (length word) (length old) (length scratch)) (near_checks m bs σ word) (early_numbered m bs σ (length word) (length old) (length scratch)) d.passes in

@@ -23,9 +23,7 @@ pub fn divide(f: Field, n: usize, e: usize, v: u16, at: usize, d: usize, work: &
     requires { Divides f n e v at d work.old }
     ensures { Divided f.modulus n e v at d work.old work.new }
 {
-    let mut j = d;
-    while 0 < j {
-        j -= 1;
+    for j in (0..d).rev() {
         divide_step(f, n, e, v, at, j, work);
     }
 }

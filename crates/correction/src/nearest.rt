@@ -9,16 +9,10 @@ ghost use Rattle.correction.specs.Scratch.{scratch_words};
 use super::candidate::{candidate, radius};
 use evaluation::{taken, write_lanes};
 use field::modulus::all_symbols;
+use refusals::Refusal;
 use space::Setting;
 use transform::blocks::is_codeword;
 use transform::slices::{copy, transpose};
-
-// 0 and the number of differences, or the number of a refusal.
-#[derive(Clone, Copy)]
-pub struct NearestAnswer {
-    pub refusal: u8,
-    pub count: usize,
-}
 
 // At how many positions the word differs from the one whose eight blocks are the lanes.
 fn differing(word: &[u16], size: usize, lanes: &[u16]) -> usize
@@ -26,25 +20,23 @@ fn differing(word: &[u16], size: usize, lanes: &[u16]) -> usize
     ensures { result ≡ differences word.now (in_order size lanes.now) }
 {
     let mut n: usize = 0;
-    let mut i = 0;
-    while i < word.len() {
-        if word[i] != lanes[i % size * 8 + i / size] {
+    for (i, x) in word.iter().enumerate() {
+        if *x != lanes[i % size * 8 + i / size] {
             n += 1;
         }
-        i += 1;
     }
     n
 }
 
-// Check 13, then the codeword.
+// Check 13, then the codeword and the number of differences.
 fn find_nearest(
     s: Setting,
     word: &[u16],
     corrected: &mut [u16],
     scratch: &mut [u16],
-) -> NearestAnswer
+) -> Result<usize, Refusal>
     requires { InSetting s word.now × (scratch_words * length word.now ≤ length scratch.old) × (length corrected.old ≡ length word.now) }
-    ensures { NearestWith s word.now corrected.old corrected.new result.refusal result.count }
+    ensures { NearestWith s word.now corrected.old corrected.new result }
 {
     let n = word.len();
     let size = n / 8;
@@ -53,41 +45,33 @@ fn find_nearest(
     write_lanes(s, &p[..size], scratch);
     let count = differing(word, size, &scratch[..n]);
     let most = radius(n);
-    if count <= most {
-        transpose(&scratch[..n], size, 8, corrected);
-        return NearestAnswer { refusal: 0, count };
+    if most < count {
+        return Err(Refusal::Far);
     }
-    NearestAnswer {
-        refusal: 13,
-        count: 0,
-    }
+    transpose(&scratch[..n], size, 8, corrected);
+    Ok(count)
 }
 
-// Checks 9 and 13, then the codeword. A word that is a codeword is its own: no search.
+// Checks 9 and 13, then the codeword and the number of differences. A word that is a codeword is its
+// own: no search.
 pub fn correct_with(
     s: Setting,
     word: &[u16],
     corrected: &mut [u16],
     scratch: &mut [u16],
-) -> NearestAnswer
+) -> Result<usize, Refusal>
     requires { InPlaces s word.now corrected.old scratch.old }
-    ensures { CorrectedWith s word.now corrected.old corrected.new result.refusal result.count }
+    ensures { CorrectedWith s word.now corrected.old corrected.new result }
 {
     let f = s.field;
+    if !all_symbols(f, word) {
+        return Err(Refusal::NoSymbol);
+    }
     let images = s.space.images;
     let n = word.len();
-    if all_symbols(f, word) {
-        if is_codeword(f, &images, s.space.k, word, &mut scratch[..n]) {
-            copy(word, corrected);
-            return NearestAnswer {
-                refusal: 0,
-                count: 0,
-            };
-        }
-        return find_nearest(s, word, corrected, scratch);
+    if is_codeword(f, &images, s.space.k, word, &mut scratch[..n]) {
+        copy(word, corrected);
+        return Ok(0);
     }
-    NearestAnswer {
-        refusal: 9,
-        count: 0,
-    }
+    find_nearest(s, word, corrected, scratch)
 }

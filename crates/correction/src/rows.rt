@@ -1,5 +1,5 @@
 // A multiple of one stretch of a list added to another, by the list product of `field`.
-ghost use Rattle.std.specs.Prelude.{◌≡◌, ◌<◌, ◌≤◌, ◌^◌, length};
+ghost use Rattle.std.specs.Prelude.{◌≡◌, ◌<◌, ◌^◌, min, length};
 ghost use Rattle.lists.specs.All.{All, Below, IsZero};
 ghost use Rattle.lists.specs.Stretch.{Apart};
 ghost use Rattle.field.specs.Binary.{degree, Irreducible};
@@ -20,8 +20,7 @@ fn zeros() -> [u16; PART]
 
 // The length of the next part of a list that has so many numbers left.
 fn part_of(rest: usize) -> usize
-    requires { 0 < rest }
-    ensures { (0 < result) × (result ≤ rest) × (result ≤ part_size) }
+    ensures { result ≡ min rest part_size }
 {
     if rest < PART {
         return rest;
@@ -35,10 +34,8 @@ pub fn add_multiple(f: Field, c: u16, from: usize, to: usize, n: usize, values: 
     ensures { Added f.modulus c from to n values.old values.new }
 {
     let none = zeros();
-    let mut i = 0;
-    while i < n {
+    for i in (0..n).step_by(PART) {
         let size = part_of(n - i);
         add_products(f, &none[..size], c, from + i, to + i, values);
-        i += size;
     }
 }

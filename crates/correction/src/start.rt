@@ -20,14 +20,10 @@ pub fn vanishing(f: Field, steps: &[u16; 16], k: usize, values: &mut [u16])
     ensures { Vanishing f.modulus steps.now k values.new }
 {
     let t = table(f, steps, k + 1);
-    let mut i = 0;
-    while i < k {
-        let p = power(i);
-        values[p] = t[MAX * k + i];
-        i += 1;
+    for i in 0..k {
+        values[power(i)] = t[MAX * k + i];
     }
-    let p = power(k);
-    values[p] = 1;
+    values[power(k)] = 1;
 }
 
 // The values of a word to the coefficients over the novel basis.

@@ -1,8 +1,9 @@
 // Dimension 8: a codeword is a polynomial of degree below 32 at 256 elements, and 112 differences are
 // corrected. The word of x + 7, which has i ^ 7 at position i, with every second of its first symbols
 // made a 6. Of the output it is shown how many symbols are those of x + 7.
-use super::answer;
-use case_lines::{cleared, figure, zeros};
+use super::Answer;
+use case_lines::zeros;
+use std::io;
 
 // The symbol at position i, where those below an end are damaged.
 fn symbol(i: usize, end: usize) -> u16 {
@@ -23,29 +24,31 @@ fn scratch_room() -> [u16; 4096] {
     [7u16; 4096]
 }
 
-fn case(label: &[u8], shift: u16, end: usize) {
+fn case(rt: &impl Print, label: &str, shift: u16, end: usize) -> io::Result<()> {
     let mut word = [0u16; 256];
     let mut corrected = [9u16; 256];
     let mut scratch = scratch_room();
     add(end, &mut word);
-    let r = correction::correct(
+    let answer = Answer(correction::correct(
         283,
         &[1, 2, 4, 8, 16, 32, 64, 128],
         shift,
         &word,
         &mut corrected,
         &mut scratch,
-    );
+    ));
     add(0, &mut corrected);
-    answer(label, r);
-    figure(b", right ", zeros(&corrected) as u64);
-    cleared(&scratch);
+    let right = zeros(&corrected);
+    println!(rt;
+        "{label}: {answer}, right {right}, zeros {}",
+        zeros(&scratch)
+    )
 }
 
-pub fn large() {
-    case(b"x + 7", 0, 0);
-    case(b"x + 7, 112 others", 0, 224);
-    case(b"x + 7, 113 others", 0, 226);
-    case(b"x + 7, shift 200, 112 others", 200, 224);
-    case(b"x + 7, shift 200, 113 others", 200, 226);
+pub fn large(rt: &impl Print) -> io::Result<()> {
+    case(rt, "x + 7", 0, 0)?;
+    case(rt, "x + 7, 112 others", 0, 224)?;
+    case(rt, "x + 7, 113 others", 0, 226)?;
+    case(rt, "x + 7, shift 200, 112 others", 200, 224)?;
+    case(rt, "x + 7, shift 200, 113 others", 200, 226)
 }

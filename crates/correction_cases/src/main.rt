@@ -6,41 +6,53 @@
 
 mod large;
 
-use case_lines::{cleared, figure, numbers};
+use case_lines::{Symbols, zeros};
 use correction::Correction;
-use streams::STDOUT_FILENO;
+use std::{fmt, io};
 
-fn answer(label: &[u8], r: Correction) {
-    io::write_all(STDOUT_FILENO, label);
-    match r {
-        Correction::Corrected(n) => figure(b": corrected ", n as u64),
-        Correction::Refused(n) => figure(b": refused ", n as u64),
+// What came of a call, beside its output.
+#[derive(Clone, Copy)]
+struct Answer(Correction);
+
+impl fmt::Display for Answer {
+    fn fmt<W: fmt::Write>(&self, f: &mut fmt::Formatter<W>) -> fmt::Result {
+        match self.0 {
+            Correction::Corrected(n) => write!(f, "corrected {n}"),
+            Correction::Refused(n) => write!(f, "refused {n}"),
+        }
     }
 }
 
 fn call(
-    label: &[u8],
+    rt: &impl Print,
+    label: &str,
     modulus: u32,
     basis: &[u16],
     shift: u16,
     word: &[u16],
     corrected: &mut [u16],
     scratch: &mut [u16],
-) {
-    let r = correction::correct(modulus, basis, shift, word, corrected, scratch);
-    answer(label, r);
-    io::write_all(STDOUT_FILENO, b",");
-    numbers(corrected);
-    cleared(scratch);
+) -> io::Result<()> {
+    let answer = Answer(correction::correct(modulus, basis, shift, word, corrected, scratch));
+    let symbols = Symbols(corrected);
+    println!(rt; "{label}: {answer},{symbols}, zeros {}", zeros(scratch))
 }
 
 // ---- what is lent
 
 // For any setting what one of dimension 3 takes.
-fn setting(label: &[u8], modulus: u32, basis: &[u16], shift: u16, word: &[u16]) {
+fn setting(
+    rt: &impl Print,
+    label: &str,
+    modulus: u32,
+    basis: &[u16],
+    shift: u16,
+    word: &[u16],
+) -> io::Result<()> {
     let mut corrected = [9u16; 8];
     let mut scratch = [7u16; 128];
     call(
+        rt,
         label,
         modulus,
         basis,
@@ -48,184 +60,236 @@ fn setting(label: &[u8], modulus: u32, basis: &[u16], shift: u16, word: &[u16]) 
         word,
         &mut corrected,
         &mut scratch,
-    );
+    )
 }
 
 // Dimension 3: a codeword is 8 times one symbol, and 3 differences are corrected.
-fn eight(label: &[u8], word: &[u16]) {
-    setting(label, 11, &[1, 2, 4], 0, word);
+fn eight(rt: &impl Print, label: &str, word: &[u16]) -> io::Result<()> {
+    setting(rt, label, 11, &[1, 2, 4], 0, word)
 }
 
 // Dimension 4: a codeword is a + b x, and 7 differences are corrected.
-fn sixteen(label: &[u8], modulus: u32, basis: &[u16], word: &[u16]) {
+fn sixteen(
+    rt: &impl Print,
+    label: &str,
+    modulus: u32,
+    basis: &[u16],
+    word: &[u16],
+) -> io::Result<()> {
     let mut corrected = [9u16; 16];
     let mut scratch = [7u16; 256];
-    call(label, modulus, basis, 0, word, &mut corrected, &mut scratch);
+    call(
+        rt,
+        label,
+        modulus,
+        basis,
+        0,
+        word,
+        &mut corrected,
+        &mut scratch,
+    )
 }
 
-fn short_scratch(label: &[u8], word: &[u16]) {
+fn short_scratch(rt: &impl Print, label: &str, word: &[u16]) -> io::Result<()> {
     let mut corrected = [9u16; 8];
     let mut scratch = [7u16; 127];
-    call(label, 11, &[1, 2, 4], 0, word, &mut corrected, &mut scratch);
+    call(
+        rt,
+        label,
+        11,
+        &[1, 2, 4],
+        0,
+        word,
+        &mut corrected,
+        &mut scratch,
+    )
 }
 
-fn long_scratch(label: &[u8], word: &[u16]) {
+fn long_scratch(rt: &impl Print, label: &str, word: &[u16]) -> io::Result<()> {
     let mut corrected = [9u16; 8];
     let mut scratch = [7u16; 200];
-    call(label, 11, &[1, 2, 4], 0, word, &mut corrected, &mut scratch);
+    call(
+        rt,
+        label,
+        11,
+        &[1, 2, 4],
+        0,
+        word,
+        &mut corrected,
+        &mut scratch,
+    )
 }
 
-fn output(label: &[u8], corrected: &mut [u16]) {
+fn output(rt: &impl Print, label: &str, corrected: &mut [u16]) -> io::Result<()> {
     let mut scratch = [7u16; 128];
-    call(label, 11, &[1, 2, 4], 0, &[5; 8], corrected, &mut scratch);
+    call(
+        rt,
+        label,
+        11,
+        &[1, 2, 4],
+        0,
+        &[5; 8],
+        corrected,
+        &mut scratch,
+    )
 }
 
 // ---- the cases
 
-fn words_of_eight() {
-    eight(b"all 5", &[5, 5, 5, 5, 5, 5, 5, 5]);
-    eight(b"first 6", &[6, 5, 5, 5, 5, 5, 5, 5]);
-    eight(b"last 6", &[5, 5, 5, 5, 5, 5, 5, 6]);
-    eight(b"3 others", &[5, 0, 5, 7, 5, 5, 5, 1]);
-    eight(b"first 3 are 6", &[6, 6, 6, 5, 5, 5, 5, 5]);
-    eight(b"3 others among zeros", &[0, 3, 0, 0, 3, 0, 3, 0]);
-    eight(b"4 others", &[5, 0, 5, 7, 5, 2, 5, 1]);
-    eight(b"4 and 4", &[5, 5, 5, 5, 6, 6, 6, 6]);
-    eight(b"8 symbols", &[0, 1, 2, 3, 4, 5, 6, 7]);
+fn words_of_eight(rt: &impl Print) -> io::Result<()> {
+    eight(rt, "all 5", &[5, 5, 5, 5, 5, 5, 5, 5])?;
+    eight(rt, "first 6", &[6, 5, 5, 5, 5, 5, 5, 5])?;
+    eight(rt, "last 6", &[5, 5, 5, 5, 5, 5, 5, 6])?;
+    eight(rt, "3 others", &[5, 0, 5, 7, 5, 5, 5, 1])?;
+    eight(rt, "first 3 are 6", &[6, 6, 6, 5, 5, 5, 5, 5])?;
+    eight(rt, "3 others among zeros", &[0, 3, 0, 0, 3, 0, 3, 0])?;
+    eight(rt, "4 others", &[5, 0, 5, 7, 5, 2, 5, 1])?;
+    eight(rt, "4 and 4", &[5, 5, 5, 5, 6, 6, 6, 6])?;
+    eight(rt, "8 symbols", &[0, 1, 2, 3, 4, 5, 6, 7])
 }
 
-fn words_of_sixteen() {
+fn words_of_sixteen(rt: &impl Print) -> io::Result<()> {
     let basis = [1u16, 2, 4, 8];
     sixteen(
-        b"x",
+        rt,
+        "x",
         19,
         &basis,
         &[0, 1, 2, 3, 4, 5, 6, 7, 8, 9, 10, 11, 12, 13, 14, 15],
-    );
+    )?;
     sixteen(
-        b"x, 7 others",
+        rt,
+        "x, 7 others",
         19,
         &basis,
         &[3, 1, 2, 15, 4, 0, 6, 8, 7, 9, 10, 13, 12, 13, 14, 1],
-    );
+    )?;
     sixteen(
-        b"x, 8 others",
+        rt,
+        "x, 8 others",
         19,
         &basis,
         &[3, 1, 2, 15, 4, 0, 6, 8, 7, 9, 10, 13, 12, 12, 14, 1],
-    );
+    )?;
     sixteen(
-        b"x from position 8",
+        rt,
+        "x from position 8",
         19,
         &basis,
         &[0, 0, 0, 0, 0, 0, 0, 0, 8, 9, 10, 11, 12, 13, 14, 15],
-    );
+    )?;
     sixteen(
-        b"x from position 9",
+        rt,
+        "x from position 9",
         19,
         &basis,
         &[0, 0, 0, 0, 0, 0, 0, 0, 0, 9, 10, 11, 12, 13, 14, 15],
-    );
+    )?;
     sixteen(
-        b"3 + 7 x, 7 others",
+        rt,
+        "3 + 7 x, 7 others",
         25,
         &[9, 3, 6, 1],
         &[2, 13, 10, 7, 8, 0, 1, 12, 3, 0, 13, 0, 4, 2, 6, 6],
-    );
+    )
 }
 
-fn settings() {
+fn settings(rt: &impl Print) -> io::Result<()> {
     let basis = [1u16, 2, 4];
     let word = [5u16; 8];
-    setting(b"modulus 7", 7, &basis, 0, &word);
-    setting(b"modulus 131072", 131072, &basis, 0, &word);
-    setting(b"modulus 15", 15, &basis, 0, &word);
-    setting(b"modulus 7, no basis", 7, &[], 0, &word);
-    setting(b"basis of 2", 11, &[1, 2], 0, &word);
+    setting(rt, "modulus 7", 7, &basis, 0, &word)?;
+    setting(rt, "modulus 131072", 131072, &basis, 0, &word)?;
+    setting(rt, "modulus 15", 15, &basis, 0, &word)?;
+    setting(rt, "modulus 7, no basis", 7, &[], 0, &word)?;
+    setting(rt, "basis of 2", 11, &[1, 2], 0, &word)?;
     setting(
-        b"basis of 15",
+        rt,
+        "basis of 15",
         65579,
         &[
             1, 2, 4, 8, 16, 32, 64, 128, 256, 512, 1024, 2048, 4096, 8192, 16384,
         ],
         0,
         &word,
-    );
-    setting(b"basis with 8", 11, &[1, 2, 8], 0, &word);
-    setting(b"dependent basis", 11, &[1, 2, 3], 0, &word);
-    setting(b"basis with 0", 11, &[0, 1, 2], 0, &word);
-    setting(b"dependent basis, word of 7", 11, &[1, 2, 3], 0, &[5; 7]);
+    )?;
+    setting(rt, "basis with 8", 11, &[1, 2, 8], 0, &word)?;
+    setting(rt, "dependent basis", 11, &[1, 2, 3], 0, &word)?;
+    setting(rt, "basis with 0", 11, &[0, 1, 2], 0, &word)?;
+    setting(rt, "dependent basis, word of 7", 11, &[1, 2, 3], 0, &[5; 7])
 }
 
 // The codewords are the same at each shift.
-fn shifts() {
+fn shifts(rt: &impl Print) -> io::Result<()> {
     let basis = [1u16, 2, 4];
     setting(
-        b"shift 7, 3 others",
+        rt,
+        "shift 7, 3 others",
         11,
         &basis,
         7,
         &[5, 0, 5, 7, 5, 5, 5, 1],
-    );
+    )?;
     setting(
-        b"shift 7, 4 others",
+        rt,
+        "shift 7, 4 others",
         11,
         &basis,
         7,
         &[5, 0, 5, 7, 5, 2, 5, 1],
-    );
-    setting(b"shift 8", 11, &basis, 8, &[5; 8]);
-    setting(b"basis of 2, shift 8", 11, &[1, 2], 8, &[5; 8]);
-    setting(b"dependent basis, shift 7", 11, &[1, 2, 3], 7, &[5; 8]);
-    setting(b"dependent basis, shift 8", 11, &[1, 2, 3], 8, &[5; 8]);
-    setting(b"shift 8, word of 7", 11, &basis, 8, &[5; 7]);
+    )?;
+    setting(rt, "shift 8", 11, &basis, 8, &[5; 8])?;
+    setting(rt, "basis of 2, shift 8", 11, &[1, 2], 8, &[5; 8])?;
+    setting(rt, "dependent basis, shift 7", 11, &[1, 2, 3], 7, &[5; 8])?;
+    setting(rt, "dependent basis, shift 8", 11, &[1, 2, 3], 8, &[5; 8])?;
+    setting(rt, "shift 8, word of 7", 11, &basis, 8, &[5; 7])
 }
 
-fn outputs() {
+fn outputs(rt: &impl Print) -> io::Result<()> {
     let mut seven = [9u16; 7];
     let mut nine = [9u16; 9];
-    output(b"output of 7", &mut seven);
-    output(b"output of 9", &mut nine);
+    output(rt, "output of 7", &mut seven)?;
+    output(rt, "output of 9", &mut nine)?;
     let mut scratch = [7u16; 127];
     call(
-        b"output of 9, scratch of 127",
+        rt,
+        "output of 9, scratch of 127",
         11,
         &[1, 2, 4],
         0,
         &[5; 8],
         &mut nine,
         &mut scratch,
-    );
+    )
 }
 
-fn lengths() {
-    eight(b"no word", &[]);
-    eight(b"word of 7", &[5; 7]);
-    eight(b"word of 9", &[5; 9]);
-    eight(b"word of 7, symbols 8", &[8; 7]);
-    outputs();
-    short_scratch(b"scratch of 127", &[5; 8]);
-    short_scratch(b"scratch of 127, symbols 8", &[8; 8]);
-    short_scratch(b"scratch of 127, 4 and 4", &[5, 5, 5, 5, 6, 6, 6, 6]);
-    long_scratch(b"scratch of 200", &[6, 5, 5, 5, 5, 5, 5, 5]);
-    long_scratch(b"scratch of 200, word of 7", &[5; 7]);
-    long_scratch(b"scratch of 200, symbol 8", &[8, 5, 5, 5, 5, 5, 5, 5]);
-    long_scratch(b"scratch of 200, 4 and 4", &[5, 5, 5, 5, 6, 6, 6, 6]);
+fn lengths(rt: &impl Print) -> io::Result<()> {
+    eight(rt, "no word", &[])?;
+    eight(rt, "word of 7", &[5; 7])?;
+    eight(rt, "word of 9", &[5; 9])?;
+    eight(rt, "word of 7, symbols 8", &[8; 7])?;
+    outputs(rt)?;
+    short_scratch(rt, "scratch of 127", &[5; 8])?;
+    short_scratch(rt, "scratch of 127, symbols 8", &[8; 8])?;
+    short_scratch(rt, "scratch of 127, 4 and 4", &[5, 5, 5, 5, 6, 6, 6, 6])?;
+    long_scratch(rt, "scratch of 200", &[6, 5, 5, 5, 5, 5, 5, 5])?;
+    long_scratch(rt, "scratch of 200, word of 7", &[5; 7])?;
+    long_scratch(rt, "scratch of 200, symbol 8", &[8, 5, 5, 5, 5, 5, 5, 5])?;
+    long_scratch(rt, "scratch of 200, 4 and 4", &[5, 5, 5, 5, 6, 6, 6, 6])
 }
 
-fn symbols() {
-    eight(b"symbols 8", &[8; 8]);
-    eight(b"last symbol 8", &[5, 5, 5, 5, 5, 5, 5, 8]);
-    eight(b"last symbol 65535", &[5, 5, 5, 5, 5, 5, 5, 65535]);
-    eight(b"4 and 4, one of them 8", &[5, 5, 5, 5, 6, 6, 6, 8]);
+fn symbols(rt: &impl Print) -> io::Result<()> {
+    eight(rt, "symbols 8", &[8; 8])?;
+    eight(rt, "last symbol 8", &[5, 5, 5, 5, 5, 5, 5, 8])?;
+    eight(rt, "last symbol 65535", &[5, 5, 5, 5, 5, 5, 5, 65535])?;
+    eight(rt, "4 and 4, one of them 8", &[5, 5, 5, 5, 6, 6, 6, 8])
 }
 
-fn main() {
-    words_of_eight();
-    words_of_sixteen();
-    settings();
-    shifts();
-    lengths();
-    symbols();
-    large::large();
+fn main(rt: HostRuntime) -> io::Result<()> {
+    words_of_eight(&rt)?;
+    words_of_sixteen(&rt)?;
+    settings(&rt)?;
+    shifts(&rt)?;
+    lengths(&rt)?;
+    symbols(&rt)?;
+    large::large(&rt)
 }

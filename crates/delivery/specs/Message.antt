@@ -1,5 +1,5 @@
 -- The message file, a setting record of either form and a coefficient record, and what the maker of a delivery answers. Definitions only.
-use Rattle.std.specs.Prelude.{◌≡◌, ◌⊎◌, false, List, [], ◌∷◌, ◌++◌, ℕ, ◌+◌, ◌*◌, ◌-◌, ◌^◌, ◌<◌, length, drop}
+use Rattle.std.specs.Prelude.{◌≡◌, ◌⊎◌, false, Result, Ok, Err, List, [], ◌∷◌, ◌++◌, ℕ, ◌+◌, ◌*◌, ◌-◌, ◌^◌, ◌<◌, length, drop}
 use Rattle.lists.specs.Answers.{Checks, Passes, Refuses}
 use Rattle.field.specs.Symbols.{symbols}
 use Rattle.poly.specs.Shift.{word_at}
@@ -8,8 +8,8 @@ use Rattle.stored.specs.File.{file_of, word_record_at, file_limit, form_in, modu
 use Rattle.stored.specs.Reader.{setting_checks, record_checks}
 use Rattle.stored.specs.declared.Form.{Form}
 use Rattle.prover.specs.Calls.{ProofAt}
-use Rattle.delivery.specs.declared.Made.{Made}
-use Rattle.delivery.specs.declared.Made.TheVariants.{Written, Refused}
+use Rattle.refusals.specs.Refusal.{number}
+use Rattle.refusals.specs.declared.Refusal.{Refusal}
 
 -- ---- where the coefficient record stands: after the setting record, as the word's record in a stored file
 
@@ -52,9 +52,9 @@ message_checks t room = setting_checks t ++ rest_checks t room
 -- ---- the answer
 
 -- the first n bytes become the stored file of the message's word and its proof; refused, the output is as it came
-abbrev pub Told : List ℕ → List ℕ → List ℕ → Made → Type 0
-Told t old new (Written n) =
+abbrev pub Told : List ℕ → List ℕ → List ℕ → Result ℕ Refusal → Type 0
+Told t old new (Ok n) =
     Passes (message_checks t (length old)) × (n ≡ end_in t)
     × ((π : List ℕ) × ProofAt (modulus_in t) (basis_in t) (shift_in t) (word_from t) π
     × (new ≡ file_of (form_in t) (modulus_in t) (basis_in t) (shift_in t) (word_from t) π ++ drop n old))
-Told t old new (Refused n) = Refuses (message_checks t (length old)) n × (new ≡ old)
+Told t old new (Err e) = Refuses (message_checks t (length old)) (number e) × (new ≡ old)

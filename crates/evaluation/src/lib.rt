@@ -20,10 +20,8 @@ fn spread(from: &[u16], to: &mut [u16])
     requires { length to.old ≡ length from.now * 8 }
     ensures { to.new ≡ spread_of (length to.old) from.now }
 {
-    let mut p = 0;
-    while p < to.len() {
-        to[p] = from[p / 8];
-        p += 1;
+    for (p, x) in to.iter_mut().enumerate() {
+        *x = from[p / 8];
     }
 }
 

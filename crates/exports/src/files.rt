@@ -7,23 +7,16 @@ ghost use Rattle.proximity.specs.Dim.{S};
 ghost use Rattle.stored.specs.Bytes.{packed_size};
 ghost use Rattle.stored.specs.File.{word_start, proof_start, form_in, degree_in, dim_in, narrow_in};
 ghost use Rattle.stored.specs.declared.Form.TheVariants.{One, Two};
-ghost use Rattle.filing.specs.Filed.{number_of};
 ghost use Rattle.filing.specs.Writer.{Wrote};
-ghost use Rattle.exports.specs.Files.{made_code, one_of, off_code, total_of, entry_of, PartByte};
+ghost use Rattle.refusals.specs.Refusal.{answer_of};
+ghost use Rattle.refusals.specs.declared.Refusal.{Refusal};
+ghost use Rattle.exports.specs.Codes.{count_code};
+ghost use Rattle.exports.specs.Files.{one_of, refused_one, off_code, total_of, entry_of, byte_of, PartByte};
 
-use coins::{Counts, Distance};
-use delivery::Made;
-use filing::Outcome;
+use super::{answer_code, count_code};
+use coins::{Counts, Sweep};
+use refusals::Refusal;
 use report::Entry;
-
-fn made_code(m: Made) -> u32
-    ensures { result ≡ made_code m }
-{
-    match m {
-        Made::Written(n) => (n % 65536) as u32,
-        Made::Refused(n) => 65536 + n as u32,
-    }
-}
 
 #[unsafe(no_mangle)]
 pub extern "C" fn proximity_write(
@@ -33,9 +26,9 @@ pub extern "C" fn proximity_write(
     proof: &[u16],
     out: &mut [u8],
 ) -> u32
-    ensures { (o : Outcome) × Wrote One modulus basis.now 0 word.now proof.now out.old out.new o × (result ≡ number_of o) }
+    ensures { (o : Result (Unit {0}) Refusal) × Wrote One modulus basis.now 0 word.now proof.now out.old out.new o × (result ≡ answer_of o) }
 {
-    filing::number_of(filing::write(modulus, basis, word, proof, out)) as u32
+    answer_code(filing::write(modulus, basis, word, proof, out))
 }
 
 #[unsafe(no_mangle)]
@@ -47,82 +40,84 @@ pub extern "C" fn proximity_write_form_two(
     proof: &[u16],
     out: &mut [u8],
 ) -> u32
-    ensures { (o : Outcome) × Wrote Two modulus basis.now shift word.now proof.now out.old out.new o × (result ≡ number_of o) }
+    ensures { (o : Result (Unit {0}) Refusal) × Wrote Two modulus basis.now shift word.now proof.now out.old out.new o × (result ≡ answer_of o) }
 {
-    filing::number_of(filing::write_form_two(modulus, basis, shift, word, proof, out)) as u32
+    answer_code(filing::write_form_two(modulus, basis, shift, word, proof, out))
 }
 
 #[unsafe(no_mangle)]
 pub extern "C" fn proximity_make(message: &[u8], out: &mut [u8]) -> u32
-    ensures { (m : Made) × making.Told message.now out.old out.new m × (result ≡ made_code m) }
+    ensures { (m : Result ℕ Refusal) × making.Told message.now out.old out.new m × (result ≡ count_code m) }
 {
-    made_code(delivery::make(message, out))
+    count_code(delivery::make(message, out))
 }
 
-// One of six numbers by its place; past them the last.
-fn one_of(
-    which: u32,
-    refusal: u8,
-    k: usize,
-    coins: u64,
-    rejects: u64,
-    most: usize,
-    last: usize,
-) -> u64
-    ensures { result ≡ one_of which refusal k coins rejects most last }
+// One of six numbers by its place: 0, what all coins tell, and past them the last.
+fn one_of(which: u32, sweep: Sweep, last: usize) -> u64
+    ensures { result ≡ one_of which sweep last }
 {
     match which {
-        0 => refusal as u64,
-        1 => k as u64,
-        2 => coins,
-        3 => rejects,
-        4 => most as u64,
+        0 => 0,
+        1 => sweep.k as u64,
+        2 => sweep.coins,
+        3 => sweep.rejects,
+        4 => sweep.most as u64,
         _ => last as u64,
     }
 }
 
-fn off_code(d: Distance) -> usize
-    ensures { result ≡ off_code d }
+// The number of a refusal at place 0, and zeros.
+fn refused_one(which: u32, e: Refusal) -> u64
+    ensures { result ≡ refused_one which e }
 {
-    match d {
-        Distance::Near(n) => n,
-        Distance::Far => 65536,
+    if which == 0 {
+        return u64::from(u8::from(e));
+    }
+    0
+}
+
+fn off_code(off: Option<usize>) -> usize
+    ensures { result ≡ off_code off }
+{
+    match off {
+        Some(n) => n,
+        None => 65536,
     }
 }
 
 #[unsafe(no_mangle)]
 pub extern "C" fn proximity_total(file: &[u8], which: u32) -> u64
-    ensures { (c : Counts) × totals.Told file.now c × (result ≡ total_of c which) }
+    ensures { (c : Result Counts Refusal) × totals.Told file.now c × (result ≡ total_of c which) }
 {
-    let c = coins::count(file);
-    let d = c.off;
-    one_of(
-        which,
-        c.refusal,
-        c.k,
-        c.coins,
-        c.rejects,
-        c.most,
-        off_code(d),
-    )
+    match coins::count(file) {
+        Ok(c) => one_of(which, c.sweep, off_code(c.off)),
+        Err(e) => refused_one(which, e),
+    }
 }
 
 #[unsafe(no_mangle)]
 pub extern "C" fn proximity_entry(bytes: &[u8], which: u32) -> u64
-    ensures { (e : Entry) × entries.Told bytes.now e × (result ≡ entry_of e which) }
+    ensures { (e : Result Entry Refusal) × entries.Told bytes.now e × (result ≡ entry_of e which) }
 {
-    let e = report::front(bytes);
-    one_of(which, e.refusal, e.k, e.coins, e.rejects, e.most, e.end)
+    match report::front(bytes) {
+        Ok(e) => one_of(which, e.sweep, e.end),
+        Err(e) => refused_one(which, e),
+    }
 }
 
-// A byte of a part; past its end 256 and the number that came with the part.
-fn byte_at(part: &[u8], at: u64, number: u8) -> u32
-    ensures { result ≡ get_or part.now at (256 + number) }
+// A byte of a part, and 256 past its end; where the file is refused, 256 and the number.
+fn byte_at(part: Result<&[u8], Refusal>, at: u64) -> u32
+    ensures { result ≡ byte_of part at }
 {
-    if at < part.len() as u64 {
-        return part[at as usize] as u32;
+    match part {
+        Ok(bytes) => {
+            if at < bytes.len() as u64 {
+                return u32::from(bytes[at as usize]);
+            }
+            256
+        }
+        Err(e) => 256 + u32::from(u8::from(e)),
     }
-    256 + number as u32
 }
 
 // Byte `at` of the word's part of a stored file; past its end 256 and the number of the refusal.
@@ -130,9 +125,7 @@ fn byte_at(part: &[u8], at: u64, number: u8) -> u32
 pub extern "C" fn proximity_word_byte(file: &[u8], at: u64) -> u32
     ensures { PartByte file.now (word_start (form_in file.now) (dim_in file.now)) (packed_size (narrow_in file.now) (2 ^ dim_in file.now)) at result }
 {
-    let mut number: u8 = 0;
-    let part = stored::word_part(file, &mut number);
-    byte_at(part, at, number)
+    byte_at(stored::word_part(file), at)
 }
 
 // The same of the proof's part.
@@ -140,7 +133,5 @@ pub extern "C" fn proximity_word_byte(file: &[u8], at: u64) -> u32
 pub extern "C" fn proximity_proof_byte(file: &[u8], at: u64) -> u32
     ensures { PartByte file.now (proof_start (form_in file.now) (degree_in file.now) (dim_in file.now)) (packed_size (narrow_in file.now) (S (dim_in file.now))) at result }
 {
-    let mut number: u8 = 0;
-    let part = stored::proof_part(file, &mut number);
-    byte_at(part, at, number)
+    byte_at(stored::proof_part(file), at)
 }

@@ -5,7 +5,7 @@
 mod files;
 mod places;
 
-ghost use Rattle.std.specs.Prelude.{◌≡◌};
+ghost use Rattle.std.specs.Prelude.{◌≡◌, ℕ};
 ghost use Rattle.field.specs.Binary.{◌⊕◌, product};
 ghost use Rattle.field.specs.Calls.{field_checks, Told};
 ghost use Rattle.codec.specs.Calls.{Encoded, Decoded};
@@ -16,96 +16,95 @@ ghost use Rattle.lists.specs.Answers.{Answers};
 ghost use Rattle.space.specs.Setting.{setting_checks};
 ghost use Rattle.verifier.specs.Checker;
 ghost use Rattle.exports.specs.Lists.{list_checks, product_checks, Added};
-ghost use Rattle.exports.specs.Codes.{correction_code, outcome_code, value_code, verdict_code};
+ghost use Rattle.refusals.specs.Refusal.{answer_of};
+ghost use Rattle.exports.specs.Codes.{count_code, value_code, verdict_code};
 
-use codec::Outcome;
-use correction::Correction;
-use field::modulus::{all_symbols, field_of, modulus_refusal};
-use field::{Field, Value};
+use field::Field;
+use field::modulus::all_symbols;
+use refusals::Refusal;
 use verifier::Verdict;
 
-fn value_code(v: Value) -> u32
+// 0, or the number of the refusal.
+fn answer_code(r: Result<(), Refusal>) -> u32
+    ensures { result ≡ answer_of r }
+{
+    match r {
+        Ok(()) => 0,
+        Err(e) => u32::from(u8::from(e)),
+    }
+}
+
+fn value_code(v: Result<u16, Refusal>) -> u32
     ensures { result ≡ value_code v }
 {
     match v {
-        Value::Symbol(x) => x as u32,
-        Value::Refused(n) => 65536 + n as u32,
+        Ok(x) => u32::from(x),
+        Err(e) => 65536 + u32::from(u8::from(e)),
     }
 }
 
-fn outcome_code(o: Outcome) -> u32
-    ensures { result ≡ outcome_code o }
-{
-    match o {
-        Outcome::Done => 0,
-        Outcome::Refused(n) => n as u32,
-    }
-}
-
-fn verdict_code(v: Verdict) -> u64
+fn verdict_code(v: Result<Verdict, Refusal>) -> u64
     ensures { result ≡ verdict_code v }
 {
     match v {
-        Verdict::Accept(n) => n as u64 % 65536,
-        Verdict::Reject(r) => {
+        Ok(Verdict::Accept(n)) => n as u64 % 65536,
+        Ok(Verdict::Reject(r)) => {
             65536
                 + r.reads as u64 % 65536
                 + r.degree as u64 % 65536 * 4294967296
                 + r.dimension as u64 % 65536 * 281474976710656
         }
-        Verdict::Refused(n) => 131072 + n as u64,
+        Err(e) => 131072 + u64::from(u8::from(e)),
     }
 }
 
-fn correction_code(c: Correction) -> u64
-    ensures { result ≡ correction_code c }
+// A number of at most 16 bits; or 65536 and the number of the refusal.
+fn count_code(c: Result<usize, Refusal>) -> u32
+    ensures { result ≡ count_code c }
 {
     match c {
-        Correction::Corrected(n) => n as u64 % 65536,
-        Correction::Refused(n) => 65536 + n as u64,
+        Ok(n) => (n % 65536) as u32,
+        Err(e) => 65536 + u32::from(u8::from(e)),
     }
 }
 
 #[unsafe(no_mangle)]
 pub extern "C" fn proximity_sum(modulus: u32, a: u16, b: u16) -> u32
-    ensures { (v : Value) × Told (field_checks modulus a b) (a ⊕ b) v × (result ≡ value_code v) }
+    ensures { (v : Result ℕ Refusal) × Told (field_checks modulus a b) (a ⊕ b) v × (result ≡ value_code v) }
 {
     value_code(field::sum(modulus, a, b))
 }
 
 #[unsafe(no_mangle)]
 pub extern "C" fn proximity_product(modulus: u32, a: u16, b: u16) -> u32
-    ensures { (v : Value) × Told (field_checks modulus a b) (product modulus a b) v × (result ≡ value_code v) }
+    ensures { (v : Result ℕ Refusal) × Told (field_checks modulus a b) (product modulus a b) v × (result ≡ value_code v) }
 {
     value_code(field::product(modulus, a, b))
 }
 
 // Checks 6 and 9 of two lists.
-fn list_refusal(f: Field, factors: &[u16], values: &[u16]) -> u8
+fn check_lists(f: Field, factors: &[u16], values: &[u16]) -> Result<(), Refusal>
     requires { Sized f }
-    ensures { Answers (list_checks f.modulus factors.now values.now) result }
+    ensures { Answers (list_checks f.modulus factors.now values.now) (answer_of result) }
 {
     if values.len() / 2 != factors.len() {
-        return 6;
+        return Err(Refusal::Length);
     }
-    if all_symbols(f, factors) {
-        if all_symbols(f, values) {
-            return 0;
-        }
-        return 9;
+    if !all_symbols(f, factors) || !all_symbols(f, values) {
+        return Err(Refusal::NoSymbol);
     }
-    9
+    Ok(())
 }
 
-// Checks 1, 2, 6 and 9.
-fn product_refusal(modulus: u32, factors: &[u16], values: &[u16]) -> u8
-    ensures { Answers (product_checks modulus factors.now values.now) result }
+// Checks 1, 2, 6 and 9, then the products of the factors and the second half of the values, added to the first half.
+fn add(modulus: u32, factors: &[u16], values: &mut [u16]) -> Result<(), Refusal>
+    ensures { Answers (product_checks modulus factors.now values.old) (answer_of result) × Added modulus factors.now values.old values.new (answer_of result) }
 {
-    let refusal = modulus_refusal(modulus);
-    if refusal != 0 {
-        return refusal;
-    }
-    list_refusal(field_of(modulus), factors, values)
+    let f = field::modulus::check(modulus)?;
+    check_lists(f, factors, values)?;
+    let n = factors.len();
+    field::products::add_products(f, factors, 0, n, 0, values);
+    Ok(())
 }
 
 // Adds the products of the factors and the second half of the values to the first half.
@@ -113,21 +112,17 @@ fn product_refusal(modulus: u32, factors: &[u16], values: &[u16]) -> u8
 pub extern "C" fn proximity_products(modulus: u32, factors: &[u16], values: &mut [u16]) -> u32
     ensures { Answers (product_checks modulus factors.now values.old) result × Added modulus factors.now values.old values.new result }
 {
-    let refusal = product_refusal(modulus, factors, values);
-    if refusal != 0 {
-        return refusal as u32;
-    }
-    let n = factors.len();
-    field::products::add_products(field_of(modulus), factors, 0, n, 0, values);
-    0
+    answer_code(add(modulus, factors, values))
 }
 
 #[unsafe(no_mangle)]
 pub extern "C" fn proximity_setting(modulus: u32, basis: &[u16], shift: u16) -> u32
     ensures { Answers (setting_checks modulus basis.now shift) result }
 {
-    let c = space::check(modulus, basis, shift);
-    c.refusal as u32
+    match space::check(modulus, basis, shift) {
+        Ok(_) => 0,
+        Err(e) => u32::from(u8::from(e)),
+    }
 }
 
 #[unsafe(no_mangle)]
@@ -139,7 +134,7 @@ pub extern "C" fn proximity_check<'a>(
     proof: &'a [u16],
     coin: u64,
 ) -> u64
-    ensures { (v : Verdict) × Checker.Told modulus basis.now shift word.now proof.now coin v × (result ≡ verdict_code v) }
+    ensures { (v : Result Verdict Refusal) × Checker.Told modulus basis.now shift word.now proof.now coin v × (result ≡ verdict_code v) }
 {
     verdict_code(verifier::check(modulus, basis, shift, word, proof, coin))
 }
@@ -153,9 +148,9 @@ pub extern "C" fn proximity_encode(
     word: &mut [u16],
     scratch: &mut [u16],
 ) -> u32
-    ensures { (o : Outcome) × Encoded modulus basis.now shift coefficients.now word.old word.new scratch.old scratch.new o × (result ≡ outcome_code o) }
+    ensures { (o : Result (Unit {0}) Refusal) × Encoded modulus basis.now shift coefficients.now word.old word.new scratch.old scratch.new o × (result ≡ answer_of o) }
 {
-    outcome_code(codec::encode(modulus, basis, shift, coefficients, word, scratch))
+    answer_code(codec::encode(modulus, basis, shift, coefficients, word, scratch))
 }
 
 #[unsafe(no_mangle)]
@@ -167,9 +162,9 @@ pub extern "C" fn proximity_decode(
     coefficients: &mut [u16],
     scratch: &mut [u16],
 ) -> u32
-    ensures { (o : Outcome) × Decoded modulus basis.now shift word.now coefficients.old coefficients.new scratch.old scratch.new o × (result ≡ outcome_code o) }
+    ensures { (o : Result (Unit {0}) Refusal) × Decoded modulus basis.now shift word.now coefficients.old coefficients.new scratch.old scratch.new o × (result ≡ answer_of o) }
 {
-    outcome_code(codec::decode(modulus, basis, shift, word, coefficients, scratch))
+    answer_code(codec::decode(modulus, basis, shift, word, coefficients, scratch))
 }
 
 #[unsafe(no_mangle)]
@@ -181,9 +176,9 @@ pub extern "C" fn proximity_prove(
     proof: &mut [u16],
     scratch: &mut [u16],
 ) -> u32
-    ensures { (o : Outcome) × Proven modulus basis.now shift word.now proof.old proof.new scratch.old scratch.new o × (result ≡ outcome_code o) }
+    ensures { (o : Result (Unit {0}) Refusal) × Proven modulus basis.now shift word.now proof.old proof.new scratch.old scratch.new o × (result ≡ answer_of o) }
 {
-    outcome_code(prover::prove(modulus, basis, shift, word, proof, scratch))
+    answer_code(prover::prove(modulus, basis, shift, word, proof, scratch))
 }
 
 #[unsafe(no_mangle)]
@@ -195,7 +190,7 @@ pub extern "C" fn proximity_correct(
     corrected: &mut [u16],
     scratch: &mut [u16],
 ) -> u64
-    ensures { (c : Correction) × CorrectedWord modulus basis.now shift word.now corrected.old corrected.new scratch.old scratch.new c × (result ≡ correction_code c) }
+    ensures { (c : Result ℕ Refusal) × CorrectedWord modulus basis.now shift word.now corrected.old corrected.new scratch.old scratch.new c × (result ≡ count_code c) }
 {
-    correction_code(correction::correct(modulus, basis, shift, word, corrected, scratch))
+    u64::from(count_code(correction::correct(modulus, basis, shift, word, corrected, scratch)))
 }

@@ -1,8 +1,10 @@
 // What the readers of a stored file hand back.
 ghost use Rattle.std.specs.Prelude.{◌≡◌};
 ghost use Rattle.stored.specs.Reader.{prefix_checks, file_checks, Told};
-ghost use Rattle.exports.specs.Places.{form_code, symbol_bytes, place_of};
+ghost use Rattle.refusals.specs.declared.Refusal.{Refusal};
+ghost use Rattle.exports.specs.Places.{form_code, symbol_bytes, refused_place, place_of};
 
+use refusals::Refusal;
 use stored::{Form, Reading};
 
 fn form_code(form: Form) -> u64
@@ -23,32 +25,43 @@ fn symbol_bytes(narrow: bool) -> u64
     2
 }
 
+// The same of a file that is refused: its number, and zeros with form 1 and two bytes.
+fn refused_place(e: Refusal, which: u32) -> u64
+    ensures { result ≡ refused_place e which }
+{
+    match which {
+        0 => u64::from(u8::from(e)),
+        4 => 1,
+        5 => 2,
+        _ => 0,
+    }
+}
+
 // A number by its place: the refusal, where the word, the proof and the end are, the form, the bytes
 // of a symbol, and the shift.
-fn place(r: Reading, which: u32) -> u64
-    ensures { result ≡ place_of r which }
+fn place(reading: Result<Reading, Refusal>, which: u32) -> u64
+    ensures { result ≡ place_of reading which }
 {
-    let refusal = r.refusal;
-    let word = r.word;
-    let proof = r.proof;
-    let end = r.end;
-    let form = r.form;
-    let narrow = r.narrow;
-    let setting = r.setting;
-    match which {
-        0 => refusal as u64,
-        1 => word as u64,
-        2 => proof as u64,
-        3 => end as u64,
-        4 => form_code(form),
-        5 => symbol_bytes(narrow),
-        _ => setting.shift as u64,
+    match reading {
+        Ok(r) => {
+            let setting = r.setting;
+            match which {
+                0 => 0,
+                1 => r.word as u64,
+                2 => r.proof as u64,
+                3 => r.end as u64,
+                4 => form_code(r.form),
+                5 => symbol_bytes(r.narrow),
+                _ => u64::from(setting.shift),
+            }
+        }
+        Err(e) => refused_place(e, which),
     }
 }
 
 #[unsafe(no_mangle)]
 pub extern "C" fn proximity_place(file: &[u8], which: u32) -> u64
-    ensures { (r : Reading) × Told (file_checks file.now) file.now r × (result ≡ place_of r which) }
+    ensures { (r : Result Reading Refusal) × Told (file_checks file.now) file.now r × (result ≡ place_of r which) }
 {
     place(stored::read(file), which)
 }
@@ -56,7 +69,7 @@ pub extern "C" fn proximity_place(file: &[u8], which: u32) -> u64
 // The same of the reader that lets bytes follow.
 #[unsafe(no_mangle)]
 pub extern "C" fn proximity_prefix_place(file: &[u8], which: u32) -> u64
-    ensures { (r : Reading) × Told (prefix_checks file.now) file.now r × (result ≡ place_of r which) }
+    ensures { (r : Result Reading Refusal) × Told (prefix_checks file.now) file.now r × (result ≡ place_of r which) }
 {
     place(stored::read_prefix(file), which)
 }

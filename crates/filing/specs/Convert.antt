@@ -1,13 +1,13 @@
 -- What the converter between the two forms answers. Definitions only.
-use Rattle.std.specs.Prelude.{◌≡◌, ◌⊎◌, List, [], ◌∷◌, ◌++◌, ℕ, length}
-use Rattle.lists.specs.Answers.{Checks, Passes, Refuses}
+use Rattle.std.specs.Prelude.{◌≡◌, Result, List, [], ◌∷◌, ◌++◌, ℕ, length}
+use Rattle.lists.specs.Answers.{Checks}
 use Rattle.stored.specs.File.{file_of, file_end, form_in, modulus_in, degree_in, dim_in, basis_in, shift_in, word_in, proof_in}
 use Rattle.stored.specs.Reader.{file_checks}
 use Rattle.stored.specs.declared.Form.{Form}
 use Rattle.stored.specs.declared.Form.TheVariants.{One, Two}
 use Rattle.filing.specs.Filed.{Filed}
-use Rattle.filing.specs.declared.ConvertedLength.{ConvertedLength}
-use Rattle.filing.specs.declared.Outcome.{Outcome}
+use Rattle.refusals.specs.Gives.{Gives}
+use Rattle.refusals.specs.declared.Refusal.{Refusal}
 
 abbrev pub other : Form → Form
 other One = Two
@@ -29,16 +29,10 @@ abbrev pub convert_checks : List ℕ → ℕ → Checks
 convert_checks f out = shift_checks f ++ ((6, (out ≡ converted_end f → ⊥)) ∷ [])
 
 -- the output becomes the file of the other form
-abbrev pub Converted : List ℕ → List ℕ → List ℕ → Outcome → Type 0
+abbrev pub Converted : List ℕ → List ℕ → List ℕ → Result (Unit {0}) Refusal → Type 0
 Converted f old new = Filed (convert_checks f (length old)) (converted f) old new
 
 -- ---- how long it will be
 
-unfoldable pub no_length : ℕ → ConvertedLength
-no_length n = record { refusal = n; length = 0 }
-
-unfoldable pub length_of : List ℕ → ConvertedLength
-length_of f = record { refusal = 0; length = converted_end f }
-
-abbrev pub LengthTold : List ℕ → ConvertedLength → Type 0
-LengthTold f r = (Passes (shift_checks f) × (r ≡ length_of f)) ⊎ (Refuses (shift_checks f) r.refusal × (r ≡ no_length r.refusal))
+abbrev pub LengthTold : List ℕ → Result ℕ Refusal → Type 0
+LengthTold f = Gives (shift_checks f) (λ n. n ≡ converted_end f)

@@ -1,5 +1,5 @@
 -- What the writer of a stored file answers: checks 1 to 6 and 9, and then the bytes. Definitions only.
-use Rattle.std.specs.Prelude.{◌≡◌, ◌⊎◌, List, [], ◌∷◌, ◌++◌, ℕ, ◌^◌, length}
+use Rattle.std.specs.Prelude.{◌≡◌, ◌⊎◌, Result, List, [], ◌∷◌, ◌++◌, ℕ, ◌^◌, length}
 use Rattle.lists.specs.All.{Below}
 use Rattle.lists.specs.Answers.{Checks}
 use Rattle.field.specs.Binary.{degree}
@@ -8,7 +8,7 @@ use Rattle.proximity.specs.Dim.{S}
 use Rattle.stored.specs.File.{file_of, file_end}
 use Rattle.stored.specs.declared.Form.{Form}
 use Rattle.filing.specs.Filed.{Filed}
-use Rattle.filing.specs.declared.Outcome.{Outcome}
+use Rattle.refusals.specs.declared.Refusal.{Refusal}
 
 -- check 6, of the lengths of word, proof and output
 abbrev pub length_checks : Form → ℕ → ℕ → ℕ → ℕ → ℕ → Checks
@@ -23,5 +23,5 @@ abbrev pub writer_checks : Form → ℕ → List ℕ → ℕ → List ℕ → Li
 writer_checks form m bs σ w π out = setting_checks m bs σ ++ length_checks form (degree m) (length bs) (length w) (length π) out ++ range_checks m w π
 
 -- the output becomes the byte string
-abbrev pub Wrote : Form → ℕ → List ℕ → ℕ → List ℕ → List ℕ → List ℕ → List ℕ → Outcome → Type 0
+abbrev pub Wrote : Form → ℕ → List ℕ → ℕ → List ℕ → List ℕ → List ℕ → List ℕ → Result (Unit {0}) Refusal → Type 0
 Wrote form m bs σ w π old new = Filed (writer_checks form m bs σ w π (length old)) (file_of form m bs σ w π) old new

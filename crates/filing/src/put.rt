@@ -45,10 +45,8 @@ fn put_numbers(xs: &[u16], narrow: bool, at: usize, out: &mut [u8])
     requires { (at + packed_size narrow (length xs.now) ≤ length out.old) × Below (number_top narrow) xs.now }
     ensures { Put at (packed narrow xs.now) out.old out.new }
 {
-    let mut i = 0;
-    while i < xs.len() {
-        put_number(xs[i], narrow, at, i, out);
-        i += 1;
+    for (i, x) in xs.iter().enumerate() {
+        put_number(*x, narrow, at, i, out);
     }
 }
 
@@ -97,11 +95,9 @@ fn copy_numbers(
     requires { (from + packed_size narrow count ≤ length file.now) × (at + packed_size target count ≤ length out.old) × Below (number_top target) (numbers_at narrow file.now from count) }
     ensures { Put at (packed target (numbers_at narrow file.now from count)) out.old out.new }
 {
-    let mut i = 0;
-    while i < count {
+    for i in 0..count {
         let x = bytes::number_at(file, from, narrow, i);
         put_number(x, target, at, i, out);
-        i += 1;
     }
 }
 

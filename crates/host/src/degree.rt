@@ -1,6 +1,7 @@
 // The checker for one coin, with the degree behind a reject.
 ghost use Rattle.host.specs.Answer.{HostDegree, triple};
 
+use super::code;
 use verifier::Verdict;
 
 // As `proximity_check_file`, and beside the number of symbols read `degree` is the least degree of a
@@ -19,18 +20,18 @@ pub fn proximity_check_degree(
     ensures { HostDegree file.now coin (triple reads.old degree.old dimension.old) (triple reads.new degree.new dimension.new) result }
 {
     match stored::check_file(file, coin) {
-        Verdict::Accept(n) => {
+        Ok(Verdict::Accept(n)) => {
             *reads = n as u32;
             *degree = 0;
             *dimension = 0;
             0
         }
-        Verdict::Reject(r) => {
+        Ok(Verdict::Reject(r)) => {
             *reads = r.reads as u32;
             *degree = r.degree as u32;
             *dimension = r.dimension as u32;
             100
         }
-        Verdict::Refused(n) => n as u32,
+        Err(e) => code(e),
     }
 }

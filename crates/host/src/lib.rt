@@ -5,12 +5,22 @@
 
 pub mod degree;
 
+ghost use Rattle.std.specs.Prelude.{◌≡◌};
 ghost use Rattle.lists.specs.Answers.{Answers};
+ghost use Rattle.refusals.specs.Refusal.{number};
 ghost use Rattle.stored.specs.Reader.{file_checks};
 ghost use Rattle.host.specs.Answer.{CoinBits, HostAnswer, HostConverted, HostLength};
 
 use proximity::tables;
+use refusals::Refusal;
 use verifier::Verdict;
+
+// The number of a refusal, as C has it.
+fn code(e: Refusal) -> u32
+    ensures { result ≡ number e }
+{
+    u32::from(u8::from(e))
+}
 
 // The number of the first check that refuses the file, or 0.
 //
@@ -18,9 +28,10 @@ use verifier::Verdict;
 pub fn proximity_file_refusal(file: &[u8]) -> u32
     ensures { Answers (file_checks file.now) result }
 {
-    let reading = stored::read(file);
-    let number = reading.refusal;
-    number as u32
+    match stored::read(file) {
+        Ok(_) => 0,
+        Err(e) => code(e),
+    }
 }
 
 // The number of coin bits R of an accepted file's dimension: its coins are the numbers below 2^R.
@@ -30,13 +41,10 @@ pub fn proximity_file_refusal(file: &[u8]) -> u32
 pub fn proximity_coin_bits(file: &[u8]) -> u32
     ensures { CoinBits file.now result }
 {
-    let reading = stored::read(file);
-    let number = reading.refusal;
-    let setting = reading.setting;
-    if number != 0 {
-        return 0;
+    match stored::read(file) {
+        Ok(r) => tables::coin_bits(r.setting.space.k),
+        Err(_) => 0,
     }
-    tables::coin_bits(setting.space.k)
 }
 
 // The checker for one coin: 0 for accept, 100 for reject, and the number of symbols read in `reads`;
@@ -48,15 +56,15 @@ pub fn proximity_check_file(file: &[u8], coin: u64, reads: &mut u32) -> u32
     ensures { HostAnswer file.now coin reads.old reads.new result }
 {
     match stored::check_file(file, coin) {
-        Verdict::Accept(n) => {
+        Ok(Verdict::Accept(n)) => {
             *reads = n as u32;
             0
         }
-        Verdict::Reject(r) => {
+        Ok(Verdict::Reject(r)) => {
             *reads = r.reads as u32;
             100
         }
-        Verdict::Refused(n) => n as u32,
+        Err(e) => code(e),
     }
 }
 
@@ -67,14 +75,13 @@ pub fn proximity_check_file(file: &[u8], coin: u64, reads: &mut u32) -> u32
 pub fn proximity_converted_length(file: &[u8], converted: &mut usize) -> u32
     ensures { HostLength file.now converted.old converted.new result }
 {
-    let found = filing::converted_length(file);
-    let number = found.refusal;
-    let length = found.length;
-    if number != 0 {
-        return number as u32;
+    match filing::converted_length(file) {
+        Ok(length) => {
+            *converted = length;
+            0
+        }
+        Err(e) => code(e),
     }
-    *converted = length;
-    0
 }
 
 // Writes a file in the other form: 0, or the number of a refusal (the file's checks, 14, then 6 for an
@@ -84,5 +91,8 @@ pub fn proximity_converted_length(file: &[u8], converted: &mut usize) -> u32
 pub fn proximity_convert(file: &[u8], out: &mut [u8]) -> u32
     ensures { HostConverted file.now out.old out.new result }
 {
-    filing::number_of(filing::convert(file, out)) as u32
+    match filing::convert(file, out) {
+        Ok(()) => 0,
+        Err(e) => code(e),
+    }
 }

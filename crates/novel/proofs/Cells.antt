@@ -67,17 +67,15 @@ module _ (q : ℕ) (irr : Irreducible q) (steps : List ℕ) where
       (upto_zeros {k = max_dim} (omega arith) first-row
       (subst (λ (l : List ℕ). Upto table_cells 1 cell (set l 0 1)) (sym e) (upto_next 1 (omega arith) refl (upto_none table_cells cell))))
 
-  pub cells-next : {t : List ℕ} (p a b : ℕ) → p + (max_dim + 1) < table_cells → Upto table_cells (p + (max_dim + 1)) cell t → a ≡ product q (s ((p + 1) / max_dim)) (get_or t (p + 1) 0) → b ≡ product q (get_or t p 0) (get_or t p 0)
-      → Upto table_cells (p + 1 + (max_dim + 1)) cell (set t (p + (max_dim + 1)) (a ⊕ b))
-  cells-next {t} p a b h u ea eb =
-      let next : p + (max_dim + 1) + 1 ≡ p + 1 + (max_dim + 1) = omega arith in
-      subst (λ (n : ℕ). Upto table_cells n cell (set t (p + (max_dim + 1)) (a ⊕ b))) next
-      (upto_next (a ⊕ b) (omega arith)
+  pub cells-next : {t : List ℕ} (n p a b : ℕ) → p + (max_dim + 1) ≡ n → n < table_cells → Upto table_cells n cell t → a ≡ product q (s ((p + 1) / max_dim)) (get_or t (p + 1) 0) → b ≡ product q (get_or t p 0) (get_or t p 0)
+      → Upto table_cells (n + 1) cell (set t n (a ⊕ b))
+  cells-next {t} n p a b e h u ea eb =
+      upto_next (a ⊕ b) h
       (ap₂ ◌⊕◌
       (ea ∙ ap (product q (s ((p + 1) / max_dim))) (u.done (p + 1) (omega arith) (omega arith)))
       (eb ∙ ap (λ (v : ℕ). product q v v) (u.done p (omega arith) (omega arith)))
-      ∙ cell-next p h)
-      u)
+      ∙ cell-next p (omega arith) ∙ ap cell e)
+      u
 
   pub cells-below : {t : List ℕ} {n : ℕ} → Below (2 ^ degree q) steps → Upto table_cells n cell t → Below (2 ^ degree q) t
   unfolding cell
@@ -85,8 +83,8 @@ module _ (q : ℕ) (irr : Irreducible q) (steps : List ℕ) where
       upto_each (λ (x : ℕ). x < 2 ^ degree q) F.sym_zero
       (λ p h. coefficient_sym F s (p / max_dim) (p / max_dim) (p % max_dim) (λ j l. All-at (λ (x : ℕ). x < 2 ^ degree q) steps 0 sb F.sym_zero j) (omega arith)) u
 
-  pub cells-all : {t : List ℕ} (p count : ℕ) → count ≤ max_dim + 1 → Below (2 ^ degree q) steps → max_dim * count ≤ p + (max_dim + 1) → Upto table_cells (p + (max_dim + 1)) cell t → Sparse q steps count t
-  cells-all p count few sb h u =
+  pub cells-all : {t : List ℕ} (n count : ℕ) → count ≤ max_dim + 1 → Below (2 ^ degree q) steps → max_dim * count ≤ n → Upto table_cells n cell t → Sparse q steps count t
+  cells-all n count few sb h u =
       record {
         below = cells-below sb u;
         right = λ j i hj hi. u.done (max_dim * j + i) (omega arith) (omega arith) ∙ cell_at (max_dim * j + i) j i (omega arith) (omega arith);

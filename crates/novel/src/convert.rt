@@ -50,13 +50,12 @@ pub fn table(f: Field, steps: &[u16; 16], count: usize) -> [u16; TABLE]
     let mut t = cells();
     t[0] = 1;
     t[MAX] = field::products::mul(f, steps[0], 1);
-    let mut p = 0;
-    while p + DIAGONAL < MAX * count {
+    for next in DIAGONAL..MAX * count {
+        let p = next - DIAGONAL;
         let w = t[p];
         let s = steps[(p + 1) / MAX];
         let a = field::products::mul(f, s, t[p + 1]);
-        t[p + DIAGONAL] = a ^ field::products::mul(f, w, w);
-        p += 1;
+        t[next] = a ^ field::products::mul(f, w, w);
     }
     t
 }
@@ -67,8 +66,7 @@ fn fold(f: Field, none: &[u16], table: &[u16; TABLE], j: usize, at: usize, value
     ensures { Folded f.modulus table.now j j at values.old values.new }
 {
     let half = power(j);
-    let mut i = 0;
-    while i < j {
+    for i in 0..j {
         let p = power(i);
         field::products::add_products(
             f,
@@ -78,7 +76,6 @@ fn fold(f: Field, none: &[u16], table: &[u16; TABLE], j: usize, at: usize, value
             at + p,
             values,
         );
-        i += 1;
     }
 }
 
@@ -164,11 +161,9 @@ pub fn scales(f: Field, none: &[u16], steps: &[u16; 16], m: usize) -> [u16; MAX_
 {
     let mut out = room();
     out[0] = 1;
-    let mut j = 0;
-    while j < m {
+    for j in 0..m {
         let n = power(j);
         field::products::add_products(f, &none[..n], steps[j], 0, n, &mut out);
-        j += 1;
     }
     out
 }

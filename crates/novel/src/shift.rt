@@ -18,11 +18,9 @@ fn squares(f: Field, x: u16) -> [u16; TABLE]
 {
     let mut t = cells();
     let mut y = x;
-    let mut j = 0;
-    while j < MAX {
-        t[j] = y;
+    for square in &mut t[..MAX] {
+        *square = y;
         y = field::products::mul(f, y, y);
-        j += 1;
     }
     t
 }

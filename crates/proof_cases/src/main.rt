@@ -2,16 +2,11 @@
 // line for each, held to the file stdout. Lent outputs and scratch come in as sevens.
 #![tactic(auto)]
 
-mod lines;
+mod answers;
 mod short;
 
-use lines::{line, outcome, verdict};
-use streams::STDOUT_FILENO;
-use verifier::Verdict;
-
-fn is_accepted(v: Verdict) -> bool {
-    matches!(v, Verdict::Accept(_))
-}
+use answers::{Checked, Made, is_accepted};
+use std::io;
 
 // The coins below the given number at which the pair is not accepted.
 fn unaccepted<'a>(
@@ -28,16 +23,17 @@ fn unaccepted<'a>(
 }
 
 fn count<'a>(
-    label: &[u8],
+    rt: &impl Print,
+    label: &str,
     modulus: u32,
     basis: &[u16],
     shift: u16,
     word: &'a [u16],
     proof: &'a [u16],
     coins: u64,
-) {
+) -> io::Result<()> {
     let n = unaccepted(modulus, basis, shift, word, proof, coins);
-    line(label, b": rejecting coins ", n as u64);
+    println!(rt; "{label}: rejecting coins {n}")
 }
 
 fn change(word: &mut [u16]) {
@@ -48,7 +44,8 @@ fn change(word: &mut [u16]) {
 
 // A word and its proof, then all coins.
 fn round(
-    label: &[u8],
+    rt: &impl Print,
+    label: &str,
     modulus: u32,
     basis: &[u16],
     shift: u16,
@@ -57,22 +54,22 @@ fn round(
     proof: &mut [u16],
     scratch: &mut [u16],
     coins: u64,
-) {
-    io::write_all(STDOUT_FILENO, label);
-    io::write_all(STDOUT_FILENO, b"\n");
-    outcome(
-        b"  encoded",
-        codec::encode(modulus, basis, shift, coefficients, word, scratch),
-    );
-    outcome(
-        b"  proved",
-        prover::prove(modulus, basis, shift, word, proof, scratch),
-    );
-    count(b"  pair", modulus, basis, shift, word, proof, coins);
+) -> io::Result<()> {
+    println!(rt; "{label}")?;
+    println!(rt;
+        "  encoded: {}",
+        Made(codec::encode(modulus, basis, shift, coefficients, word, scratch))
+    )?;
+    println!(rt;
+        "  proved: {}",
+        Made(prover::prove(modulus, basis, shift, word, proof, scratch))
+    )?;
+    count(rt, "  pair", modulus, basis, shift, word, proof, coins)
 }
 
 // All coins again, with one symbol of the word changed.
 fn changed(
+    rt: &impl Print,
     modulus: u32,
     basis: &[u16],
     shift: u16,
@@ -80,20 +77,21 @@ fn changed(
     proof: &mut [u16],
     scratch: &mut [u16],
     coins: u64,
-) {
+) -> io::Result<()> {
     change(word);
-    count(b"  changed", modulus, basis, shift, word, proof, coins);
-    outcome(
-        b"  proved again",
-        prover::prove(modulus, basis, shift, word, proof, scratch),
-    );
+    count(rt, "  changed", modulus, basis, shift, word, proof, coins)?;
+    println!(rt;
+        "  proved again: {}",
+        Made(prover::prove(modulus, basis, shift, word, proof, scratch))
+    )
 }
 
-fn round7(label: &[u8], modulus: u32, basis: &[u16], shift: u16) {
+fn round7(rt: &impl Print, label: &str, modulus: u32, basis: &[u16], shift: u16) -> io::Result<()> {
     let mut word = [7u16; 128];
     let mut proof = [7u16; 896];
     let mut scratch = [7u16; 512];
     round(
+        rt,
         label,
         modulus,
         basis,
@@ -103,8 +101,9 @@ fn round7(label: &[u8], modulus: u32, basis: &[u16], shift: u16) {
         &mut proof,
         &mut scratch,
         64,
-    );
+    )?;
     changed(
+        rt,
         modulus,
         basis,
         shift,
@@ -112,14 +111,15 @@ fn round7(label: &[u8], modulus: u32, basis: &[u16], shift: u16) {
         &mut proof,
         &mut scratch,
         64,
-    );
+    )
 }
 
-fn round8(label: &[u8], modulus: u32, basis: &[u16], shift: u16) {
+fn round8(rt: &impl Print, label: &str, modulus: u32, basis: &[u16], shift: u16) -> io::Result<()> {
     let mut word = [7u16; 256];
     let mut proof = [7u16; 16128];
     let mut scratch = [7u16; 1024];
     round(
+        rt,
         label,
         modulus,
         basis,
@@ -129,8 +129,9 @@ fn round8(label: &[u8], modulus: u32, basis: &[u16], shift: u16) {
         &mut proof,
         &mut scratch,
         2048,
-    );
+    )?;
     changed(
+        rt,
         modulus,
         basis,
         shift,
@@ -138,14 +139,15 @@ fn round8(label: &[u8], modulus: u32, basis: &[u16], shift: u16) {
         &mut proof,
         &mut scratch,
         2048,
-    );
+    )
 }
 
-fn round9(label: &[u8], modulus: u32, basis: &[u16], shift: u16) {
+fn round9(rt: &impl Print, label: &str, modulus: u32, basis: &[u16], shift: u16) -> io::Result<()> {
     let mut word = [7u16; 512];
     let mut proof = [7u16; 32256];
     let mut scratch = [7u16; 2048];
     round(
+        rt,
         label,
         modulus,
         basis,
@@ -155,8 +157,9 @@ fn round9(label: &[u8], modulus: u32, basis: &[u16], shift: u16) {
         &mut proof,
         &mut scratch,
         4096,
-    );
+    )?;
     changed(
+        rt,
         modulus,
         basis,
         shift,
@@ -164,99 +167,118 @@ fn round9(label: &[u8], modulus: u32, basis: &[u16], shift: u16) {
         &mut proof,
         &mut scratch,
         4096,
-    );
+    )
+}
+
+// The setting of the zero pair: the first seven powers of 2 in the field of bytes.
+fn seven<'a>(word: &'a [u16], proof: &'a [u16], coin: u64) -> Checked {
+    let basis = [1u16, 2, 4, 8, 16, 32, 64];
+    Checked(verifier::check(283, &basis, 0, word, proof, coin))
+}
+
+fn count_seven<'a>(
+    rt: &impl Print,
+    label: &str,
+    word: &'a [u16],
+    proof: &'a [u16],
+) -> io::Result<()> {
+    let basis = [1u16, 2, 4, 8, 16, 32, 64];
+    count(rt, label, 283, &basis, 0, word, proof, 64)
 }
 
 // The zero pair at k = 7, and one symbol of it changed.
-fn zero_pair() {
-    let basis = [1u16, 2, 4, 8, 16, 32, 64];
+fn zero_pair(rt: &impl Print) -> io::Result<()> {
     let mut word = [0u16; 128];
     let mut proof = [0u16; 896];
-    count(b"k 7, zeros", 283, &basis, 0, &word, &proof, 64);
+    count_seven(rt, "k 7, zeros", &word, &proof)?;
     proof[0] = 1;
-    count(b"k 7, proof position 0", 283, &basis, 0, &word, &proof, 64);
+    count_seven(rt, "k 7, proof position 0", &word, &proof)?;
     proof[0] = 0;
     word[32] = 1;
-    count(b"k 7, word position 32", 283, &basis, 0, &word, &proof, 64);
-    verdict(
-        b"k 7, word position 32, coin 8",
-        verifier::check(283, &basis, 0, &word, &proof, 8),
-    );
+    count_seven(rt, "k 7, word position 32", &word, &proof)?;
+    println!(rt;
+        "k 7, word position 32, coin 8: {}",
+        seven(&word, &proof, 8)
+    )?;
     word[32] = 0;
     proof[0] = 1;
-    verdict(
-        b"k 7, proof position 0, coin 17",
-        verifier::check(283, &basis, 0, &word, &proof, 17),
-    );
+    println!(rt;
+        "k 7, proof position 0, coin 17: {}",
+        seven(&word, &proof, 17)
+    )?;
     proof[0] = 0;
-    verdict(
-        b"k 7, coin 63",
-        verifier::check(283, &basis, 0, &word, &proof, 63),
-    );
-    verdict(
-        b"k 7, coin 64",
-        verifier::check(283, &basis, 0, &word, &proof, 64),
-    );
+    println!(rt; "k 7, coin 63: {}", seven(&word, &proof, 63))?;
+    println!(rt; "k 7, coin 64: {}", seven(&word, &proof, 64))
 }
 
 // The same word and proof in settings with a shift, and a shift that is no symbol.
-fn shifts() {
+fn shifts(rt: &impl Print) -> io::Result<()> {
     let basis = [1u16, 2, 4, 8, 16, 32, 64];
     let word = [0u16; 128];
     let mut proof = [0u16; 896];
     let mut scratch = [7u16; 512];
-    verdict(
-        b"k 7, shift 255, coin 63",
-        verifier::check(283, &basis, 255, &word, &proof, 63),
-    );
-    verdict(
-        b"k 7, shift 256, coin 63",
-        verifier::check(283, &basis, 256, &word, &proof, 63),
-    );
-    outcome(
-        b"k 7, shift 256, proved",
-        prover::prove(283, &basis, 256, &word, &mut proof, &mut scratch),
-    );
+    println!(rt;
+        "k 7, shift 255, coin 63: {}",
+        Checked(verifier::check(283, &basis, 255, &word, &proof, 63))
+    )?;
+    println!(rt;
+        "k 7, shift 256, coin 63: {}",
+        Checked(verifier::check(283, &basis, 256, &word, &proof, 63))
+    )?;
+    println!(rt;
+        "k 7, shift 256, proved: {}",
+        Made(prover::prove(283, &basis, 256, &word, &mut proof, &mut scratch))
+    )
 }
 
-fn rounds() {
-    round7(b"k 7, modulus 283", 283, &[1, 2, 4, 8, 16, 32, 64], 0);
-    round7(b"k 7, modulus 137", 137, &[64, 3, 17, 5, 9, 32, 1], 0);
-    round8(b"k 8, modulus 283", 283, &[1, 2, 4, 8, 16, 32, 64, 128], 0);
+fn rounds(rt: &impl Print) -> io::Result<()> {
+    round7(rt, "k 7, modulus 283", 283, &[1, 2, 4, 8, 16, 32, 64], 0)?;
+    round7(rt, "k 7, modulus 137", 137, &[64, 3, 17, 5, 9, 32, 1], 0)?;
     round8(
-        b"k 8, modulus 65579",
+        rt,
+        "k 8, modulus 283",
+        283,
+        &[1, 2, 4, 8, 16, 32, 64, 128],
+        0,
+    )?;
+    round8(
+        rt,
+        "k 8, modulus 65579",
         65579,
         &[3, 5, 9, 32768, 257, 64, 2, 1000],
         0,
-    );
+    )?;
     round9(
-        b"k 9, modulus 65579",
+        rt,
+        "k 9, modulus 65579",
         65579,
         &[1, 2, 4, 8, 16, 32, 64, 128, 256],
         0,
-    );
+    )
 }
 
-fn shifted_rounds() {
+fn shifted_rounds(rt: &impl Print) -> io::Result<()> {
     round7(
-        b"k 7, modulus 137, shift 100",
+        rt,
+        "k 7, modulus 137, shift 100",
         137,
         &[64, 3, 17, 5, 9, 32, 1],
         100,
-    );
+    )?;
     round8(
-        b"k 8, modulus 65579, shift 40000",
+        rt,
+        "k 8, modulus 65579, shift 40000",
         65579,
         &[3, 5, 9, 32768, 257, 64, 2, 1000],
         40000,
-    );
+    )
 }
 
-fn main() {
-    zero_pair();
-    short::only_coin();
-    short::words();
-    rounds();
-    shifts();
-    shifted_rounds();
+fn main(rt: HostRuntime) -> io::Result<()> {
+    zero_pair(&rt)?;
+    short::only_coin(&rt)?;
+    short::words(&rt)?;
+    rounds(&rt)?;
+    shifts(&rt)?;
+    shifted_rounds(&rt)
 }

@@ -1,5 +1,5 @@
 -- A word with its proof is that of a polynomial at each shift or at none. Assumes nothing.
-use Rattle.std.specs.Prelude.{◌↔◌, List, ℕ, ◌-◌}
+use Rattle.std.specs.Prelude.{◌↔◌, List, ℕ}
 use Rattle.std.proofs.Common.{sym, ap, ◌∙◌}
 use Rattle.field.specs.Laws.{Ops, IsField}
 use Rattle.poly.specs.Codeword.{Basis}

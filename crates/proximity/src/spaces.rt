@@ -15,11 +15,8 @@ fn with_row(images: &[u16; CELLS], i: usize, x: [u16; 16]) -> [u16; 16]
     ensures { result ≡ added_row images.now i x }
 {
     let mut out = x;
-    let mut j = 0;
-    while j < 16 {
-        let y = images[16 * i + j];
-        out[j] ^= y;
-        j += 1;
+    for (j, y) in out.iter_mut().enumerate() {
+        *y ^= images[16 * i + j];
     }
     out
 }
@@ -31,14 +28,12 @@ pub fn element_images(images: &[u16; CELLS], h: usize, c: usize, r: usize) -> [u
 {
     let mut x = [0u16; 16];
     let mut rest = r;
-    let mut i = 0;
-    while i < c {
+    for i in 0..c {
         if rest % 2 == 1 {
             let y = with_row(images, h + i, x);
             x = y;
         }
         rest /= 2;
-        i += 1;
     }
     x
 }
@@ -54,11 +49,8 @@ pub fn row_images(images: &[u16; CELLS], k: usize, r: usize) -> [u16; CELLS]
         return t;
     }
     let x = element_images(images, h, k - h, r);
-    let mut j = 0;
-    while j < 16 {
-        t[16 * (h + 2) + j] = x[j];
-        j += 1;
-    }
+    let a = 16 * (h + 2);
+    t[a..a + 16].copy_from_slice(&x);
     t
 }
 

@@ -1,6 +1,8 @@
 -- What the report says of the file at the front of a stream. Definitions only.
-use Rattle.std.specs.Prelude.{◌≡◌, ◌⊎◌, List, [], ◌∷◌, ◌++◌, ℕ, ◌<◌, take}
-use Rattle.lists.specs.Answers.{Checks, Passes, Refuses}
+use Rattle.std.specs.Prelude.{◌≡◌, Result, List, [], ◌∷◌, ◌++◌, ℕ, ◌<◌, take}
+use Rattle.lists.specs.Answers.{Checks}
+use Rattle.refusals.specs.Gives.{Gives}
+use Rattle.refusals.specs.declared.Refusal.{Refusal}
 use Rattle.stored.specs.File.{file_limit, form_in, degree_in, dim_in, end_in}
 use Rattle.stored.specs.Reader.{setting_checks, symbol_checks}
 use Rattle.coins.specs.Totals.{Swept}
@@ -18,11 +20,6 @@ entry_checks s = setting_checks s ++ (size_checks (end_in s) ++ symbol_checks (f
 abbrev pub file_in : List ℕ → List ℕ
 file_in s = take (end_in s) s
 
-unfoldable pub no_entry : ℕ → Entry
-no_entry n = record { refusal = n; k = 0; coins = 0; rejects = 0; most = 0; end = 0 }
-
--- 0, what all coins of the file tell, and where it ends; or the number of the first check that refuses
-abbrev pub Told : List ℕ → Entry → Type 0
-Told s e =
-    (Passes (entry_checks s) × (e.refusal ≡ 0) × Swept (file_in s) e.k e.coins e.rejects e.most × (e.end ≡ end_in s))
-    ⊎ (Refuses (entry_checks s) e.refusal × (e ≡ no_entry e.refusal))
+-- what all coins of the file tell, and where it ends; or the first check that refuses
+abbrev pub Told : List ℕ → Result Entry Refusal → Type 0
+Told s = Gives (entry_checks s) (λ e. Swept (file_in s) e.sweep.k e.sweep.coins e.sweep.rejects e.sweep.most × (e.end ≡ end_in s))

@@ -1,7 +1,8 @@
 -- The report on a whole stream: an entry for each file, up to the first that is refused, and at most 200; and the total of them. Definitions only.
-use Rattle.std.specs.Prelude.{◌≡◌, ◌⊎◌, List, [], ◌∷◌, ℕ, zero, suc, ◌+◌, ◌*◌, ◌^◌, ◌≤◌, ◌<◌, length, drop}
-use Rattle.report.specs.Entry.{no_entry, Told}
+use Rattle.std.specs.Prelude.{◌≡◌, ◌⊎◌, Some, None, Result, Err, MatchResult, List, [], ◌∷◌, ℕ, zero, suc, ◌+◌, ◌*◌, ◌^◌, ◌≤◌, ◌<◌, length, drop}
+use Rattle.report.specs.Entry.{Told}
 use Rattle.report.specs.Total.{total_of, with_entry}
+use Rattle.refusals.specs.declared.Refusal.{Refusal}
 use Rattle.report.specs.declared.Entry.{Entry}
 use Rattle.report.specs.declared.Report.{Report}
 use Rattle.report.specs.declared.Total.{Total}
@@ -18,14 +19,14 @@ most_coins = 2 ^ 25
 
 -- the entries of at most n files from the front of s on: none where the stream has ended; a refused file is the last; past an accepted one the
 -- next begins
-abbrev pub Entries : ℕ → List ℕ → List Entry → Type 0
+abbrev pub Entries : ℕ → List ℕ → List (Result Entry Refusal) → Type 0
 Entries zero s es = es ≡ []
 Entries (suc n) [] es = es ≡ []
 Entries (suc n) (b ∷ s) es =
-    (e : Entry) × (rest : List Entry) × Told (b ∷ s) e × (es ≡ e ∷ rest)
-    × (((e.refusal ≡ 0) × Entries n (drop e.end (b ∷ s)) rest) ⊎ ((e.refusal ≡ 0 → ⊥) × (rest ≡ [])))
+    (e : Result Entry Refusal) × (rest : List (Result Entry Refusal)) × Told (b ∷ s) e × (es ≡ e ∷ rest)
+    × MatchResult e (λ x. Entries n (drop x.end (b ∷ s)) rest) (λ r. rest ≡ [])
 
-abbrev pub Reported : List ℕ → List Entry → Total → Type 0
+abbrev pub Reported : List ℕ → List (Result Entry Refusal) → Total → Type 0
 Reported s es total = Entries most_files s es × (total ≡ total_of es)
 
 -- ---- one file after the other
@@ -36,21 +37,23 @@ pub record Fair (n : ℕ) (t : Total) : Type 0 where
   pub coins : t.coins ≤ n * most_coins
   pub rejects : t.rejects ≤ n * most_coins
 
--- one more file is read: the latest was accepted, there is room for one, and the total is one that so many files can have
+-- one more file is read: the latest was not refused, there is room for one, and the total is one that so many files can have
 pub record GoesOn (p : Report) : Type 0 where
-  pub accepted : p.latest.refusal ≡ 0
+  pub accepted : (r : Refusal) → p.latest ≡ Some (Err r) → ⊥
   pub room : p.read < most_files
   pub fair : Fair p.read p.total
 
 -- the report before the first file
 unfoldable pub no_report : Report
-no_report = record { read = 0; latest = no_entry 0; total = total_of [] }
+no_report = record { read = 0; latest = None; total = total_of [] }
 
 -- r is p with one file more, at the front of s
 pub record Added (s : List ℕ) (p r : Report) : Type 0 where
   pub read : r.read ≡ p.read + 1
-  pub latest : Told s r.latest
-  pub total : r.total ≡ with_entry p.total r.latest
+  pub entry : Result Entry Refusal
+  pub latest : r.latest ≡ Some entry
+  pub told : Told s entry
+  pub total : r.total ≡ with_entry p.total entry
 
 -- where p goes on and there are bytes; else the report is as it came
 abbrev pub Next : List ℕ → Report → Report → Type 0

@@ -1,27 +1,25 @@
 -- The total of a report. Definitions only.
-use Rattle.std.specs.Prelude.{List, [], ◌∷◌, ℕ, zero, suc, ◌+◌}
+use Rattle.std.specs.Prelude.{Result, Ok, Err, MatchResult, List, [], ◌∷◌, ℕ, ◌+◌, ◌^◌, ◌<◌}
+use Rattle.refusals.specs.declared.Refusal.{Refusal}
 use Rattle.report.specs.declared.Entry.{Entry}
 use Rattle.report.specs.declared.Total.{Total}
 
--- n for an accepted file, and 0 for one with the number of a refusal
-abbrev pub if_accepted : ℕ → ℕ → ℕ
-if_accepted zero n = n
-if_accepted (suc refusal) n = 0
-
 -- the sum of g over the accepted files
-abbrev pub sum_of : (Entry → ℕ) → List Entry → ℕ
+abbrev pub sum_of : (Entry → ℕ) → List (Result Entry Refusal) → ℕ
 sum_of g [] = 0
-sum_of g (e ∷ es) = if_accepted e.refusal (g e) + sum_of g es
+sum_of g (Ok e ∷ es) = g e + sum_of g es
+sum_of g (Err r ∷ es) = sum_of g es
 
 -- the accepted files, the sum of their coins and the sum of their rejects
-unfoldable pub total_of : List Entry → Total
-total_of es = record { files = sum_of (λ e. 1) es; coins = sum_of (λ e. e.coins) es; rejects = sum_of (λ e. e.rejects) es }
+unfoldable pub total_of : List (Result Entry Refusal) → Total
+total_of es = record { files = sum_of (λ e. 1) es; coins = sum_of (λ e. e.sweep.coins) es; rejects = sum_of (λ e. e.sweep.rejects) es }
 
 -- a total with one file more
-unfoldable pub with_entry : Total → Entry → Total
-with_entry t e =
-    record {
-      files = t.files + if_accepted e.refusal 1;
-      coins = t.coins + if_accepted e.refusal e.coins;
-      rejects = t.rejects + if_accepted e.refusal e.rejects;
-    }
+abbrev pub with_entry : Total → Result Entry Refusal → Total
+with_entry t (Ok e) = record { files = t.files + 1; coins = t.coins + e.sweep.coins; rejects = t.rejects + e.sweep.rejects }
+with_entry t (Err r) = t
+
+-- its sums fit
+abbrev pub Countable : Total → Result Entry Refusal → Type 0
+Countable t file =
+    MatchResult file (λ e. (t.files + 1 < 2 ^ 64) × (t.coins + e.sweep.coins < 2 ^ 64) × (t.rejects + e.sweep.rejects < 2 ^ 64)) (λ r. Unit {0})

@@ -1,22 +1,24 @@
 -- What an accepted file holds. Assumes nothing.
-use Rattle.std.specs.Prelude.{◌≡◌, refl, Bool, List, [], ◌∷◌, ◌++◌, ℕ, ◌^◌, ◌≤◌, ◌<◌, length}
-use Rattle.std.proofs.Common.{sym, ◌∙◌, inl}
-use Rattle.std.proofs.Math.Path.{ap, subst}
+use Rattle.std.specs.Prelude.{◌≡◌, refl, Bool, Ok, Err, List, [], ◌∷◌, ℕ, ◌^◌, ◌≤◌, ◌<◌, length}
+use Rattle.std.proofs.Common.{◌∙◌, inl}
+use Rattle.std.proofs.Math.Path.{ap}
 use Rattle.std.proofs.Math.Logic.{inr}
 use native.Mathlib.Omega.{arith}
-use Rattle.lists.specs.Answers.{Checks, Answers, Passes, Refuses, Numbered, answers-after, refused_first, not_refused, passes-each, numbered_append}
+use Rattle.lists.specs.Answers.{Passes, Numbered, answers-after, passes-each, numbered_append}
 use Rattle.field.specs.Calls.{modulus_numbered}
 use Rattle.field.specs.Checks.{modulus_checks, good_passes, not-less}
 use Rattle.space.specs.Ready.{Ready, ready}
-use Rattle.space.specs.Setting.{space_checks, SettledBy, setting_of}
+use Rattle.space.specs.Setting.{space_checks, setting_of}
 use Rattle.space.specs.Sound.{Sound, sound, sound_passes}
-use Rattle.space.specs.declared.Checked.{Checked}
+use Rattle.refusals.specs.Gives.{gives_first}
+use Rattle.refusals.specs.declared.Refusal.{Refusal}
+use Rattle.refusals.specs.declared.Refusal.TheVariants.{WrongCount}
 use Rattle.space.specs.declared.Setting.{Setting}
 use Rattle.proximity.specs.Dim.{S}
 use Rattle.stored.specs.File.{word_mark, proof_mark, word_record_at, proof_record_at, layout_of, form_in, modulus_in, degree_in, dim_in, basis_in, shift_in, narrow_in, end_in}
 use Rattle.stored.specs.Passed.{Head, length_basis, head_numbered, head_passed, head-passes, to_four}
 use Rattle.stored.proofs.Passed.{record_numbered, record_passed, record_passes}
-use Rattle.stored.specs.Reader.{head_checks, basis_checks, setting_checks, word_checks, proof_checks, symbol_checks, prefix_checks, file_checks, SettingRead, read_of, no_read, Told}
+use Rattle.stored.specs.Reader.{head_checks, basis_checks, setting_checks, word_checks, proof_checks, symbol_checks, prefix_checks, file_checks, SettingRead, read_of, Told}
 use Rattle.stored.specs.declared.Form.{Form}
 use Rattle.stored.specs.declared.Layout.{Layout}
 use Rattle.stored.specs.declared.Reading.{Reading}
@@ -44,20 +46,11 @@ module _ (f : List ℕ) where
       (inr ((λ n. n s.basis.elements), inr ((λ n. n s.shift), inr ((λ n. n s.basis.independent), refl))))
 
   -- the setting that was read
-  pub read-setting : (c : Checked) → SettledBy (setting_checks f) (modulus_in f) (basis_in f) (shift_in f) c → c.refusal ≡ 0 → SettingRead f c.setting
-  read-setting c (inl (p, z, e)) h = (p, e)
-  read-setting c (inr ((l, a), e)) h = absurd (omega arith)
-
   pub setting_ready : (s : Setting) → SettingRead f s → Ready (modulus_in f) (basis_in f) s
-  setting_ready s (p, e) =
-      ready (modulus_in f) (basis_in f) (shift_in f) (record { refusal = 0; setting = s }) (inl (sound_passes (modulus_in f) (basis_in f) (shift_in f) (setting-passed p).1, refl, e)) refl
+  setting_ready s (p, e) = ready (modulus_in f) (basis_in f) (shift_in f) s (sound_passes (modulus_in f) (basis_in f) (shift_in f) (setting-passed p).1, e)
 
   pub setting_dimension : (s : Setting) → SettingRead f s → s.space.k ≡ dim_in f
   setting_dimension s r = (setting_ready s r).dimension ∙ length_basis f
-
-  pub setting_refuses : (c : Checked) → SettledBy (setting_checks f) (modulus_in f) (basis_in f) (shift_in f) c → (c.refusal ≡ 0 → ⊥) → Refuses (setting_checks f) c.refusal
-  setting_refuses c (inl (p, z, e)) n = absurd (n z)
-  setting_refuses c (inr (a, e)) n = a
 
   abbrev form : Form
   form = form_in f
@@ -114,68 +107,38 @@ module _ (f : List ℕ) where
 
   -- ---- what the reader told
 
-  module _ (cs : List (ℕ × Type 0)) (r : Reading) where
-    pub told_accepted : Told cs f r → r.refusal ≡ 0 → Passes cs × (r ≡ read_of f)
-    told_accepted (inl q) z = q
-    told_accepted (inr ((p, a), e)) z = absurd (omega arith)
-
-    pub told_refuses : Told cs f r → (r.refusal ≡ 0 → ⊥) → Refuses cs r.refusal
-    unfolding read_of
-    told_refuses (inl (p, e)) n = absurd (n (ap (λ (x : Reading). x.refusal) e))
-    told_refuses (inr (a, e)) n = a
-
-    pub told_refused : Told cs f r → (r.refusal ≡ 0 → ⊥) → Passes cs → ⊥
-    told_refused t n q = not_refused cs q (told_refuses t n)
-
-    pub told-number : (n : ℕ) → 0 < n → Answers cs n → r ≡ no_read n → Told cs f r
-    unfolding no_read
-    told-number n h a e =
-        let same : r.refusal ≡ n = ap (λ (x : Reading). x.refusal) e in
-        inr ((omega arith, subst (Answers cs) (sym same) a), e ∙ ap no_read (sym same))
-
-  -- one table of checks after another
-  pub told-after : (cs ds : Checks) (r : Reading) → Numbered cs → Passes cs → Told ds f r → Told (cs ++ ds) f r
-  told-after cs ds r n p (inl (q, e)) = inl (answers-after cs ds 0 n p q, e)
-  told-after cs ds r n p (inr ((h, a), e)) = inr ((h, answers-after cs ds r.refusal n p a), e)
-
   -- the last check, past the records
   abbrev last : List (ℕ × Type 0)
   last = (12, end_in f < length f) ∷ []
 
-  pub told-prefix_refused : (r : Reading) → Told (prefix_checks f) f r → (r.refusal ≡ 0 → ⊥) → Told (file_checks f) f r
-  told-prefix_refused r (inl (p, e)) n = absurd (told_refused (prefix_checks f) r (inl (p, e)) n p)
-  told-prefix_refused r (inr ((h, a), e)) n = inr ((h, refused_first (prefix_checks f) last r.refusal h a), e)
+  pub told-prefix_refused : (e : Refusal) → Told (prefix_checks f) f (Err e) → Told (file_checks f) f (Err e)
+  told-prefix_refused e = gives_first (λ r. r ≡ read_of f) (prefix_checks f) last e
 
-  module _ (r : Reading) (t : Told (prefix_checks f) f r) (z : r.refusal ≡ 0) where
+  module _ (r : Reading) (t : Told (prefix_checks f) f (Ok r)) where
     pub told-end : r.end ≡ end_in f
     unfolding read_of
-    told-end = ap (λ (x : Reading). x.end) (told_accepted (prefix_checks f) r t z).1
+    told-end = ap (λ (x : Reading). x.end) t.1
 
-    pub told-longer : (s : Reading) → end_in f < length f → s ≡ no_read 12 → Told (file_checks f) f s
-    told-longer s h e =
-        told-number (file_checks f) s 12 (omega arith)
-        (answers-after (prefix_checks f) last 12 prefix_numbered (told_accepted (prefix_checks f) r t z).0 (inl (h, refl))) e
+    pub told-longer : end_in f < length f → Told (file_checks f) f (Err WrongCount)
+    told-longer h = (omega arith, answers-after (prefix_checks f) last 12 prefix_numbered t.0 (inl (h, refl)))
 
-    pub told-whole : length f ≤ end_in f → Told (file_checks f) f r
-    told-whole h =
-        let a = told_accepted (prefix_checks f) r t z in
-        inl (answers-after (prefix_checks f) last 0 prefix_numbered a.0 (inr ((λ l. omega arith), refl)), a.1)
+    pub told-whole : length f ≤ end_in f → Told (file_checks f) f (Ok r)
+    told-whole h = (answers-after (prefix_checks f) last 0 prefix_numbered t.0 (inr ((λ l. omega arith), refl)), t.1)
 
-  pub read_places : (r : Reading) → Told (file_checks f) f r → r.refusal ≡ 0 → Places f r
+  pub read_places : (r : Reading) → Told (file_checks f) f (Ok r) → Places f r
   unfolding read_of
-  read_places r t z =
-      let a = told_accepted (file_checks f) r t z in
+  read_places r (p, e) =
       record {
-        form = ap (λ (x : Reading). x.form) a.1;
-        narrow = ap (λ (x : Reading). x.narrow) a.1;
-        word = ap (λ (x : Reading). x.word) a.1;
-        proof = ap (λ (x : Reading). x.proof) a.1;
-        end = ap (λ (x : Reading). x.end) a.1;
-        whole = (accepted a.0).whole;
+        form = ap (λ (x : Reading). x.form) e;
+        narrow = ap (λ (x : Reading). x.narrow) e;
+        word = ap (λ (x : Reading). x.word) e;
+        proof = ap (λ (x : Reading). x.proof) e;
+        end = ap (λ (x : Reading). x.end) e;
+        whole = (accepted p).whole;
       }
 
   -- the reading of the setting s with the layout p
   pub read_made : (g : Form) (s : Setting) (p : Layout) → g ≡ form → s ≡ setting_of (modulus_in f) (basis_in f) (shift_in f) → p ≡ layout_of form l k
-      → record { refusal = 0; form = g; setting = s; narrow = p.narrow; word = p.word; proof = p.proof; end = p.end } ≡ read_of f
+      → record { form = g; setting = s; narrow = p.narrow; word = p.word; proof = p.proof; end = p.end } ≡ read_of f
   unfolding read_of
-  read_made g s p eg es ep = λ i. record { refusal = 0; form = eg i; setting = es i; narrow = (ep i).narrow; word = (ep i).word; proof = (ep i).proof; end = (ep i).end }
+  read_made g s p eg es ep = λ i. record { form = eg i; setting = es i; narrow = (ep i).narrow; word = (ep i).word; proof = (ep i).proof; end = (ep i).end }

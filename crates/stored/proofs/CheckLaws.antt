@@ -1,5 +1,5 @@
 -- The answer over stored bytes, from the reading and the verdict. Assumes nothing.
-use Rattle.std.specs.Prelude.{◌≡◌, refl, Bool, List, [], ◌∷◌, ℕ, ◌^◌, ◌≤◌, ◌<◌}
+use Rattle.std.specs.Prelude.{◌≡◌, refl, Bool, Result, Ok, List, [], ◌∷◌, ℕ, ◌^◌, ◌≤◌, ◌<◌}
 use Rattle.std.proofs.Common.{sym, ◌∙◌, inl, inr, arith}
 use Rattle.std.proofs.Math.Path.{ap, subst, transport}
 use Rattle.lists.specs.All.{Below}
@@ -13,9 +13,10 @@ use Rattle.proximity.specs.Dim.{S, R}
 use Rattle.verifier.specs.Checker.{read_checks, OnCoin}
 use Rattle.verifier.specs.Parts.{InSpace, ready_space}
 use Rattle.verifier.specs.Verdicts.{answered_alike}
+use Rattle.refusals.specs.declared.Refusal.{Refusal}
 use Rattle.verifier.specs.declared.Verdict.{Verdict}
 use Rattle.stored.specs.Accepted.{Accepted, Places}
-use Rattle.stored.proofs.Accepted.{accepted, setting-passes, setting_ready, file_numbered, read_places, told_accepted, told_refuses}
+use Rattle.stored.proofs.Accepted.{accepted, setting-passes, setting_ready, file_numbered, read_places}
 use Rattle.stored.specs.Bytes.{numbers_at}
 use Rattle.stored.specs.Check.{coin_checks, AnsweredFile, Laid}
 use Rattle.stored.specs.File.{modulus_in, dim_in, basis_in, narrow_in, word_in, proof_in}
@@ -31,8 +32,8 @@ module _ (f : List ℕ) (coin : ℕ) where
   eight = (8, 2 ^ R (dim_in f) ≤ coin) ∷ []
 
   -- a refused file, and a coin out of range
-  pub refused_file : (r : Reading) → Told (file_checks f) f r → (r.refusal ≡ 0 → ⊥) → Refuses (coin_checks f coin) r.refusal
-  refused_file r t n = let a = told_refuses f (file_checks f) r t n in (a.0, refused_first (file_checks f) eight r.refusal a.0 a.1)
+  pub refused_file : (n : ℕ) → Refuses (file_checks f) n → Refuses (coin_checks f coin) n
+  refused_file n (l, a) = (l, refused_first (file_checks f) eight n l a)
 
   pub refused_coin : Passes (file_checks f) → 2 ^ R (dim_in f) ≤ coin → Refuses (coin_checks f coin) 8
   refused_coin p h = (omega arith, answers-after (file_checks f) eight 8 (file_numbered f) p (inl (h, refl)))
@@ -42,21 +43,21 @@ module _ (f : List ℕ) (coin : ℕ) where
 
 -- ---- an accepted file
 
-module _ (f : List ℕ) (r : Reading) (t : Told (file_checks f) f r) (z : r.refusal ≡ 0) where
+module _ (f : List ℕ) (r : Reading) (t : Told (file_checks f) f (Ok r)) where
   pub read-passes : Passes (file_checks f)
-  read-passes = (told_accepted f (file_checks f) r t z).0
+  read-passes = t.0
 
   held : Accepted f
   held = accepted f read-passes
 
   places : Places f r
-  places = read_places f r t z
+  places = read_places f r t
 
   pub read_ready : Ready (modulus_in f) (basis_in f) r.setting
   unfolding read_of
   read_ready =
       setting_ready f r.setting
-      (setting-passes f held.records.head held.records.setting, ap (λ (x : Reading). x.setting) (told_accepted f (file_checks f) r t z).1)
+      (setting-passes f held.records.head held.records.setting, ap (λ (x : Reading). x.setting) t.1)
 
   modulus : r.setting.field.modulus ≡ modulus_in f
   modulus = read_ready.modulus
@@ -92,7 +93,7 @@ module _ (f : List ℕ) (r : Reading) (t : Told (file_checks f) f r) (z : r.refu
   read_below = transport (λ i. Below (2 ^ degree (sym modulus i)) (numbers_at (sym places.narrow i) f (sym places.word i) (2 ^ sym read_dimension i))) held.records.word.symbols
 
   -- the verdict is that on the word and the proof of the file
-  pub read_answer : (coin : ℕ) → coin < 2 ^ R (dim_in f) → (v : Verdict)
+  pub read_answer : (coin : ℕ) → coin < 2 ^ R (dim_in f) → (v : Result Verdict Refusal)
       → OnCoin (symbols r.setting.field.modulus) r.setting.space.k (basis_in f) (numbers_at r.narrow f r.word (2 ^ r.setting.space.k)) (numbers_at r.narrow f r.proof (S r.setting.space.k)) coin v
       → AnsweredFile f coin v
   unfolding word_in proof_in

@@ -1,5 +1,5 @@
 -- On an accepted file the checker over stored bytes answers as the checker on symbols with the setting, the word and the proof of the file. Assumes nothing.
-use Rattle.std.specs.Prelude.{◌≡◌, refl, ◌⊎◌, ◌↔◌, List, [], ◌∷◌, ◌++◌, ℕ, ◌^◌, ◌≤◌, ◌<◌, length}
+use Rattle.std.specs.Prelude.{◌≡◌, refl, ◌⊎◌, ◌↔◌, Result, Ok, List, [], ◌∷◌, ◌++◌, ℕ, ◌^◌, ◌≤◌, ◌<◌, length}
 use Rattle.std.proofs.Common.{sym, subst, inl, inr, arith, pow_pos}
 use Rattle.std.proofs.Math.Decide.{dec_le}
 use Rattle.lists.specs.Answers.{Checks, Answers, Passes, answers_one, answers-after, passes-each, numbered_append}
@@ -13,6 +13,8 @@ use Rattle.verifier.specs.Checker.{delivery_checks, read_checks, checker_checks,
 use Rattle.verifier.specs.Rejected.{InBounds, told_bounds}
 use Rattle.verifier.specs.Verdicts.{answered_alike, told-delivery, delivery-passes}
 use Rattle.verifier.specs.declared.Rejection.{Rejection}
+use Rattle.refusals.specs.declared.Refusal.{Refusal}
+use Rattle.refusals.specs.declared.Refusal.TheVariants.{NoCoin}
 use Rattle.verifier.specs.declared.Verdict.{Verdict}
 use Rattle.verifier.specs.declared.Verdict.TheVariants.{Reject}
 use Rattle.stored.proofs.Accepted.{file_numbered}
@@ -45,7 +47,7 @@ module _ (m : ℕ) (bs : List ℕ) (σ : ℕ) (w π : List ℕ) (d : Delivery m 
 
   symbols_coin : 2 ^ R (length bs) ≤ coin → Answers (checker_checks m bs σ w π coin) 8
   symbols_coin h =
-      (told-delivery m bs σ w π coin (sound_passes m bs σ d.setting) 8 (omega arith) (inr (lengths, inl (h, refl)))).1
+      (told-delivery m bs σ w π coin (sound_passes m bs σ d.setting) NoCoin (omega arith, inr (lengths, inl (h, refl)))).1
     where
       lengths : (length w ≡ 2 ^ length bs → ⊥) ⊎ (length π ≡ S (length bs) → ⊥) → ⊥
       lengths (inl f) = f d.word
@@ -81,7 +83,7 @@ module _ (f : List ℕ) (p : Passes (file_checks f)) (coin : ℕ) where
   to_bytes = alike on_symbols on_bytes (2 ^ R (dim_in f)) coin high low (λ h. (refused_coin f coin p h).1) (coin_passes f coin p)
 
   -- the checks of the file leave 8 alone of the checks on symbols, and the verdict is the same
-  pub file-answers : (v : Verdict) → AnsweredFile f coin v ↔ Told (modulus_in f) (basis_in f) (shift_in f) (word_in f) (proof_in f) coin v
+  pub file-answers : (v : Result Verdict Refusal) → AnsweredFile f coin v ↔ Told (modulus_in f) (basis_in f) (shift_in f) (word_in f) (proof_in f) coin v
   file-answers v = (
     (λ a. subst (λ (k : ℕ). Answered on_symbols (symbols (modulus_in f)) k (basis_in f) (word_in f) (proof_in f) coin v) (sym (length_basis f))
         (answered_alike on_bytes on_symbols to-symbols (symbols (modulus_in f)) (dim_in f) (basis_in f) (word_in f) (proof_in f) coin v a)),
@@ -90,7 +92,7 @@ module _ (f : List ℕ) (p : Passes (file_checks f)) (coin : ℕ) where
   )
 
 -- the numbers that come with a reject
-pub file_bounds : (f : List ℕ) (coin : ℕ) (r : Rejection) → AnsweredFile f coin (Reject r) → InBounds r
+pub file_bounds : (f : List ℕ) (coin : ℕ) (r : Rejection) → AnsweredFile f coin (Ok (Reject r)) → InBounds r
 file_bounds f coin r a =
     let p : Passes (file_checks f) = (passes-each (file_checks f) ((8, 2 ^ R (dim_in f) ≤ coin) ∷ []) (file_numbered f) a.0).0 in
-    told_bounds (modulus_in f) (basis_in f) (shift_in f) (word_in f) (proof_in f) coin r ((file-answers f p coin (Reject r)).0 a)
+    told_bounds (modulus_in f) (basis_in f) (shift_in f) (word_in f) (proof_in f) coin r ((file-answers f p coin (Ok (Reject r))).0 a)

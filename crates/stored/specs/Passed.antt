@@ -1,5 +1,5 @@
 -- What the checks of a stored file say where they pass, up to the setting, and what a record of symbols is. Assumes nothing.
-use Rattle.std.specs.Prelude.{◌≡◌, refl, ◌⊎◌, Bool, false, List, ℕ, ◌+◌, ◌*◌, ◌^◌, ◌≤◌, ◌<◌, length, get_or}
+use Rattle.std.specs.Prelude.{◌≡◌, refl, ◌⊎◌, Bool, false, Result, Ok, Err, List, ℕ, ◌+◌, ◌*◌, ◌^◌, ◌≤◌, ◌<◌, length, get_or}
 use Rattle.std.proofs.Common.{inl, inr, arith, eq-eqb, ne_eqb}
 use Rattle.std.proofs.Math.Decide.{dec_le}
 use Rattle.lists.specs.All.{Below}
@@ -13,7 +13,8 @@ use Rattle.space.specs.Ready.{settled_after}
 use Rattle.space.specs.Setting.{space_checks, SettledBy}
 use Rattle.space.specs.Sizes.{max_dim}
 use Rattle.space.specs.Sound.{outside}
-use Rattle.space.specs.declared.Checked.{Checked}
+use Rattle.refusals.specs.declared.Refusal.{Refusal}
+use Rattle.space.specs.declared.Setting.{Setting}
 use Rattle.stored.specs.Bytes.{packed_size, four_at, number_at, numbers_at}
 use Rattle.stored.specs.File.{setting_mark, word_record_at, form_in, modulus_in, dim_in, basis_in, shift_in, Opens}
 use Rattle.stored.specs.Reader.{late_checks, head_checks, basis_checks, setting_checks}
@@ -107,13 +108,13 @@ module _ (f : List ℕ) where
     pub to_four : {r : ℕ} → Answers (basis_checks f) r → Answers (space_checks (modulus_in f) (basis_in f) (shift_in f)) r
     to_four e = inr (in_range, e)
 
-    pub settled_after-head : (c : Checked) → SettledBy (space_checks (modulus_in f) (basis_in f) (shift_in f)) (modulus_in f) (basis_in f) (shift_in f) c
-        → SettledBy (setting_checks f) (modulus_in f) (basis_in f) (shift_in f) c
-    settled_after-head c s = settled_after (head_checks f) (basis_checks f) (modulus_in f) (basis_in f) (shift_in f) c (head_numbered f) (head-passes h) (go s)
+    pub settled_after-head : (r : Result Setting Refusal) → SettledBy (space_checks (modulus_in f) (basis_in f) (shift_in f)) (modulus_in f) (basis_in f) (shift_in f) r
+        → SettledBy (setting_checks f) (modulus_in f) (basis_in f) (shift_in f) r
+    settled_after-head r s = settled_after (head_checks f) (basis_checks f) (modulus_in f) (basis_in f) (shift_in f) r (head_numbered f) (head-passes h) (go r s)
       where
-        go : SettledBy (space_checks (modulus_in f) (basis_in f) (shift_in f)) (modulus_in f) (basis_in f) (shift_in f) c → SettledBy (basis_checks f) (modulus_in f) (basis_in f) (shift_in f) c
-        go (inl (p, z, e)) = inl (from_four p, z, e)
-        go (inr ((l, a), e)) = inr ((l, from_four a), e)
+        go : (r : Result Setting Refusal) → SettledBy (space_checks (modulus_in f) (basis_in f) (shift_in f)) (modulus_in f) (basis_in f) (shift_in f) r → SettledBy (basis_checks f) (modulus_in f) (basis_in f) (shift_in f) r
+        go (Ok s) (p, e) = (from_four p, e)
+        go (Err d) (l, a) = (l, from_four a)
 
 -- ---- a record of symbols
 

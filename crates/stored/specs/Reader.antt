@@ -1,18 +1,20 @@
 -- What the reader of a stored file answers: its checks, front to back, and then what was read. Definitions only.
-use Rattle.std.specs.Prelude.{◌≡◌, ◌⊎◌, Bool, false, List, [], ◌∷◌, ◌++◌, ℕ, ◌+◌, ◌^◌, ◌<◌, length, take, drop}
+use Rattle.std.specs.Prelude.{◌≡◌, ◌⊎◌, Bool, Result, List, [], ◌∷◌, ◌++◌, ℕ, ◌+◌, ◌^◌, ◌<◌, length, take, drop}
+use Rattle.std.specs.Borrow.{Bor}
 use Rattle.lists.specs.All.{Below}
-use Rattle.lists.specs.Answers.{Checks, Passes, Refuses}
+use Rattle.lists.specs.Answers.{Checks, Passes}
+use Rattle.refusals.specs.Gives.{Gives}
+use Rattle.refusals.specs.declared.Refusal.{Refusal}
 use Rattle.field.specs.Checks.{modulus_checks}
 use Rattle.field.specs.Symbols.{symbols}
 use Rattle.poly.specs.Span.{Independent}
-use Rattle.space.specs.Setting.{setting_of, no_setting}
+use Rattle.space.specs.Setting.{setting_of}
 use Rattle.space.specs.Sizes.{max_dim}
 use Rattle.space.specs.declared.Setting.{Setting}
 use Rattle.proximity.specs.Dim.{S}
 use Rattle.stored.specs.Bytes.{packed_size, four_at, numbers_at}
 use Rattle.stored.specs.File.{setting_mark, word_mark, proof_mark, narrow_of, word_record_at, word_start, proof_record_at, proof_start, form_in, modulus_in, degree_in, dim_in, basis_in, shift_in, narrow_in, end_in, Opens}
 use Rattle.stored.specs.declared.Form.{Form}
-use Rattle.stored.specs.declared.Form.TheVariants.{One}
 use Rattle.stored.specs.declared.Reading.{Reading}
 
 -- 3, then basis and shift present (11)
@@ -60,11 +62,10 @@ file_checks f = prefix_checks f ++ ((12, end_in f < length f) ∷ [])
 abbrev pub SettingRead : List ℕ → Setting → Type 0
 SettingRead f s = Passes (setting_checks f) × (s ≡ setting_of (modulus_in f) (basis_in f) (shift_in f))
 
--- the form, the setting, whether symbols take one byte each, and the places; and where a check refuses, the number alone
+-- the form, the setting, whether symbols take one byte each, and the places
 unfoldable pub read_of : List ℕ → Reading
 read_of f =
     record {
-      refusal = 0;
       form = form_in f;
       setting = setting_of (modulus_in f) (basis_in f) (shift_in f);
       narrow = narrow_in f;
@@ -73,12 +74,9 @@ read_of f =
       end = end_in f;
     }
 
-unfoldable pub no_read : ℕ → Reading
-no_read n = record { refusal = n; form = One; setting = no_setting; narrow = false; word = 0; proof = 0; end = 0 }
+abbrev pub Told : Checks → List ℕ → Result Reading Refusal → Type 0
+Told cs f = Gives cs (λ r. r ≡ read_of f)
 
-abbrev pub Told : Checks → List ℕ → Reading → Type 0
-Told cs f r = (Passes cs × (r ≡ read_of f)) ⊎ (Refuses cs r.refusal × (r ≡ no_read r.refusal))
-
--- the n bytes from p on of an accepted file, and 0; nothing of a refused one, and the number
-abbrev pub PartTold : List ℕ → ℕ → ℕ → List ℕ → ℕ → Type 0
-PartTold f p n part r = (Passes (file_checks f) × (part ≡ take n (drop p f)) × (r ≡ 0)) ⊎ (Refuses (file_checks f) r × (part ≡ []))
+-- the n bytes from p on of an accepted file
+abbrev pub PartTold : List ℕ → ℕ → ℕ → Result (Bor (List ℕ)) Refusal → Type 0
+PartTold f p n = Gives (file_checks f) (λ part. part.now ≡ take n (drop p f))

@@ -15,6 +15,7 @@ ghost use Rattle.stored.specs.Check.{Laid};
 use super::bytes;
 use field::Field;
 use proximity::{Place, places, spaces};
+use refusals::Refusal;
 use space::Space;
 use verifier::{Verdict, parts};
 
@@ -73,7 +74,7 @@ pub fn verdict(
     word: usize,
     proof: usize,
     coin: u64,
-) -> Verdict
+) -> Result<Verdict, Refusal>
     requires { InSpace f s.k s.images × Laid narrow file.now s.k word proof }
     ensures { (b : List ℕ) → Basis (symbols f.modulus) s.k b → Images (symbols f.modulus) b s.images → OnCoin (symbols f.modulus) s.k b (numbers_at narrow file.now word (2 ^ s.k)) (numbers_at narrow file.now proof (S s.k)) coin result }
 {

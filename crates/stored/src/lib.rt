@@ -10,11 +10,12 @@ pub mod small;
 ghost use Rattle.std.specs.Prelude.{◌≡◌, ◌^◌};
 ghost use Rattle.stored.specs.Bytes.{packed_size};
 ghost use Rattle.stored.specs.File.{word_start, proof_start, form_in, degree_in, dim_in, narrow_in};
-ghost use Rattle.stored.specs.Reader.{symbol_checks, prefix_checks, file_checks, SettingRead, no_read, Told, PartTold};
+ghost use Rattle.stored.specs.Reader.{symbol_checks, prefix_checks, file_checks, SettingRead, Told, PartTold};
 ghost use Rattle.stored.specs.Check.{AnsweredFile};
 ghost use Rattle.proximity.specs.Dim.{S};
 
 use proximity::tables;
+use refusals::Refusal;
 use space::Setting;
 use verifier::Verdict;
 
@@ -44,11 +45,10 @@ pub struct Layout {
     pub end: usize,
 }
 
-// A refusal's number and no setting; or 0, the form, the setting, whether symbols take one byte
-// each, where those of the word and of the proof begin, and where the last record ends.
+// The form, the setting, whether symbols take one byte each, where those of the word and of the proof
+// begin, and where the last record ends.
 #[derive(Clone, Copy)]
 pub struct Reading {
-    pub refusal: u8,
     pub form: Form,
     pub setting: Setting,
     pub narrow: bool,
@@ -57,113 +57,74 @@ pub struct Reading {
     pub end: usize,
 }
 
-fn refused(number: u8) -> Reading
-    ensures { result ≡ no_read number }
-{
-    Reading {
-        refusal: number,
-        form: Form::One,
-        setting: space::no_setting(),
-        narrow: false,
-        word: 0,
-        proof: 0,
-        end: 0,
-    }
-}
-
 // Reads the word's record and the proof's, past the record of a checked setting.
-pub fn read_symbols(file: &[u8], setting: Setting) -> Reading
+pub fn read_symbols(file: &[u8], setting: Setting) -> Result<Reading, Refusal>
     requires { SettingRead file.now setting }
     ensures { Told (symbol_checks (form_in file.now) file.now (dim_in file.now) (degree_in file.now)) file.now result }
 {
     let form = forms::form_of(file);
     let k = setting.space.k;
-    let late = records::symbols_refusal(setting.field, file, form, k);
-    if late != 0 {
-        return refused(late);
-    }
+    records::check_symbols(setting.field, file, form, k)?;
     let p = forms::layout(form, setting.field, k);
-    Reading {
-        refusal: 0,
+    Ok(Reading {
         form,
         setting,
         narrow: p.narrow,
         word: p.word,
         proof: p.proof,
         end: p.end,
-    }
+    })
 }
 
 // Reads three records from the front of the bytes; others may follow.
 //
 // Ruled out: a count that is compared before the mark, since a record with neither gets 11; an end
 // before the proof's symbols, since it is where they end.
-pub fn read_prefix(file: &[u8]) -> Reading
+pub fn read_prefix(file: &[u8]) -> Result<Reading, Refusal>
     ensures { Told (prefix_checks file.now) file.now result }
 {
-    let c = records::setting_of(file);
-    let early = c.refusal;
-    let setting = c.setting;
-    if early != 0 {
-        return refused(early);
-    }
+    let setting = records::setting_of(file)?;
     read_symbols(file, setting)
 }
 
 // Reads a stored file.
 //
-// Ruled out: 11 for a count that is not the one of the setting, since that gets 12; 0 for a file
+// Ruled out: 11 for a count that is not the one of the setting, since that gets 12; a reading of a file
 // with a byte after its last record.
-pub fn read(file: &[u8]) -> Reading
+pub fn read(file: &[u8]) -> Result<Reading, Refusal>
     ensures { Told (file_checks file.now) file.now result }
 {
-    let r = read_prefix(file);
-    let number = r.refusal;
-    let last = r.end;
-    if number != 0 {
-        return r;
+    let r = read_prefix(file)?;
+    if r.end < file.len() {
+        return Err(Refusal::WrongCount);
     }
-    if last < file.len() {
-        return refused(12);
-    }
-    r
+    Ok(r)
 }
 
-// The word's bytes in a stored file, and 0; where the file is refused, nothing and the number.
+// The word's bytes in a stored file.
 //
 // Ruled out: the word's record with its mark and count, since the part has the bytes of 2^k symbols; a part
-// of a file whose proof has a symbol out of range, since that gets 9 and nothing.
-pub fn word_part<'a>(file: &'a [u8], number: &mut u8) -> &'a [u8]
-    ensures { PartTold file.now (word_start (form_in file.now) (dim_in file.now)) (packed_size (narrow_in file.now) (2 ^ dim_in file.now)) result.now number.new }
+// of a file whose proof has a symbol out of range, since that gets 9.
+pub fn word_part(file: &[u8]) -> Result<&[u8], Refusal>
+    ensures { PartTold file.now (word_start (form_in file.now) (dim_in file.now)) (packed_size (narrow_in file.now) (2 ^ dim_in file.now)) result }
 {
-    let r = read(file);
-    let early = r.refusal;
-    let start = r.word;
-    let proof = r.proof;
-    *number = early;
-    if early != 0 {
-        return &file[0..0];
-    }
-    let end = proof - 6;
-    &file[start..end]
+    let places = read(file)?;
+    let start = places.word;
+    let end = places.proof - 6;
+    Ok(&file[start..end])
 }
 
-// The proof's bytes in a stored file, and 0; where the file is refused, nothing and the number.
+// The proof's bytes in a stored file.
 //
-// Ruled out: an empty part for an accepted file of dimension 7, whose proof has 896 symbols; a
-// number that is left as it came, since it is 0 or that of the refusal.
-pub fn proof_part<'a>(file: &'a [u8], number: &mut u8) -> &'a [u8]
-    ensures { PartTold file.now (proof_start (form_in file.now) (degree_in file.now) (dim_in file.now)) (packed_size (narrow_in file.now) (S (dim_in file.now))) result.now number.new }
+// Ruled out: an empty part for an accepted file of dimension 7, whose proof has 896 symbols; a part of a
+// refused file.
+pub fn proof_part(file: &[u8]) -> Result<&[u8], Refusal>
+    ensures { PartTold file.now (proof_start (form_in file.now) (degree_in file.now) (dim_in file.now)) (packed_size (narrow_in file.now) (S (dim_in file.now))) result }
 {
-    let r = read(file);
-    let refusal = r.refusal;
+    let r = read(file)?;
     let start = r.proof;
     let end = r.end;
-    *number = refusal;
-    if refusal != 0 {
-        return &file[0..0];
-    }
-    &file[start..end]
+    Ok(&file[start..end])
 }
 
 // The checker for one coin over a stored file: the file's checks, then 8; then the verdict, with
@@ -171,28 +132,21 @@ pub fn proof_part<'a>(file: &'a [u8], number: &mut u8) -> &'a [u8]
 //
 // Ruled out: 8 for a refused file with a coin out of range, since the file's checks come first; a
 // verdict on a file with a symbol out of range that the coin does not read, since that gets 9.
-pub fn check_file(file: &[u8], coin: u64) -> Verdict
+pub fn check_file(file: &[u8], coin: u64) -> Result<Verdict, Refusal>
     ensures { AnsweredFile file.now coin result }
 {
-    let r = read(file);
-    let number = r.refusal;
-    let setting = r.setting;
-    let narrow = r.narrow;
-    let word = r.word;
-    let proof = r.proof;
-    if number != 0 {
-        return Verdict::Refused(number);
-    }
+    let found = read(file)?;
+    let setting = found.setting;
     if coin >> tables::coin_bits(setting.space.k) != 0 {
-        return Verdict::Refused(8);
+        return Err(Refusal::NoCoin);
     }
     check::verdict(
         setting.field,
         setting.space,
         file,
-        narrow,
-        word,
-        proof,
+        found.narrow,
+        found.word,
+        found.proof,
         coin,
     )
 }

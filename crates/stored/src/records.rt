@@ -3,7 +3,10 @@ ghost use Rattle.std.specs.Prelude.{◌≡◌, false, ◌+◌, ◌*◌, ◌^◌,
 ghost use Rattle.lists.specs.All.{Below};
 ghost use Rattle.lists.specs.Answers.{Answers};
 ghost use Rattle.lists.specs.Decides.{Decides};
+ghost use Rattle.refusals.specs.Gives.{Gives};
+ghost use Rattle.refusals.specs.Refusal.{answer_of};
 ghost use Rattle.field.specs.Binary.{degree};
+ghost use Rattle.field.specs.Checks.{FieldOf};
 ghost use Rattle.field.specs.Products.{Sized};
 ghost use Rattle.space.specs.Setting.{SettledBy};
 ghost use Rattle.space.specs.Sizes.{max_dim};
@@ -14,31 +17,26 @@ ghost use Rattle.stored.specs.Reader.{head_checks, setting_checks, record_checks
 use super::{Form, bytes, forms};
 use field::{Field, modulus};
 use proximity::tables;
-use space::Checked;
+use refusals::Refusal;
+use space::Setting;
 
-// The checks of a setting record up to the presence of its basis and its shift.
-fn head_refusal(file: &[u8]) -> u8
-    ensures { Answers (head_checks file.now) result }
+// The checks of a setting record up to the presence of its basis and its shift, and the field.
+fn check_head(file: &[u8]) -> Result<Field, Refusal>
+    ensures { Gives (head_checks file.now) (FieldOf (modulus_in file.now)) result }
 {
     let form = forms::form_of(file);
     if !bytes::opens(file, 0, 7, 0x53, forms::setting_mark(form)) {
-        return 11;
+        return Err(Refusal::NoRecord);
     }
-    let early = modulus::modulus_refusal(bytes::four_at(file, 2));
-    if early != 0 {
-        return early;
-    }
+    let f = modulus::check(bytes::four_at(file, 2))?;
     let k = file[6] as usize;
-    if k < 3 {
-        return 3;
-    }
-    if space::MAX < k {
-        return 3;
+    if k < 3 || space::MAX < k {
+        return Err(Refusal::BasisLength);
     }
     if file.len() < forms::setting_size(form, k) {
-        return 11;
+        return Err(Refusal::NoRecord);
     }
-    0
+    Ok(f)
 }
 
 // The first k two-byte numbers from index 7 on, with zeros past them.
@@ -62,18 +60,11 @@ fn shift_of(file: &[u8]) -> u16
     }
 }
 
-// The setting of a setting record, or the number of the first check that refuses.
-pub fn setting_of(file: &[u8]) -> Checked
+// The setting of a setting record.
+pub fn setting_of(file: &[u8]) -> Result<Setting, Refusal>
     ensures { SettledBy (setting_checks file.now) (modulus_in file.now) (basis_in file.now) (shift_in file.now) result }
 {
-    let early = head_refusal(file);
-    if early != 0 {
-        return Checked {
-            refusal: early,
-            setting: space::no_setting(),
-        };
-    }
-    let f = modulus::field_of(bytes::four_at(file, 2));
+    let f = check_head(file)?;
     let k = file[6] as usize;
     let basis = basis_at(file, k);
     space::check_basis(f, &basis[..k], shift_of(file))
@@ -88,7 +79,7 @@ fn all_fit(f: Field, file: &[u8], at: usize, narrow: bool, count: usize) -> bool
 }
 
 // The checks of a record of count symbols at index at.
-pub fn record_refusal(
+pub fn check_record(
     f: Field,
     file: &[u8],
     at: usize,
@@ -96,39 +87,36 @@ pub fn record_refusal(
     second: u8,
     narrow: bool,
     count: usize,
-) -> u8
+) -> Result<(), Refusal>
     requires { Sized f × (at ≤ length file.now) × (count < 4294967296) }
-    ensures { Answers (record_checks narrow file.now at first second count (degree f.modulus)) result }
+    ensures { Answers (record_checks narrow file.now at first second count (degree f.modulus)) (answer_of result) }
 {
     if !bytes::opens(file, at, 6, first, second) {
-        return 11;
+        return Err(Refusal::NoRecord);
     }
     if bytes::four_at(file, at + 2) as usize != count {
-        return 12;
+        return Err(Refusal::WrongCount);
     }
     let start = at + 6;
     if file.len() - start < forms::packed_size(narrow, count) {
-        return 11;
+        return Err(Refusal::NoRecord);
     }
-    if all_fit(f, file, start, narrow, count) {
-        return 0;
+    if !all_fit(f, file, start, narrow, count) {
+        return Err(Refusal::NoSymbol);
     }
-    9
+    Ok(())
 }
 
 // The checks of the word's record and the proof's.
-pub fn symbols_refusal(f: Field, file: &[u8], form: Form, k: usize) -> u8
+pub fn check_symbols(f: Field, file: &[u8], form: Form, k: usize) -> Result<(), Refusal>
     requires { Sized f × (k ≤ max_dim) × (word_record_at form k ≤ length file.now) }
-    ensures { Answers (symbol_checks form file.now k (degree f.modulus)) result }
+    ensures { Answers (symbol_checks form file.now k (degree f.modulus)) (answer_of result) }
 {
     let n = 1usize << k;
     let p = forms::layout(form, f, k);
     let word = p.word - 6;
-    let early = record_refusal(f, file, word, 0x57, forms::word_mark(form), p.narrow, n);
-    if early != 0 {
-        return early;
-    }
+    check_record(f, file, word, 0x57, forms::word_mark(form), p.narrow, n)?;
     let proof = p.proof - 6;
     let s = tables::proof_length(k);
-    record_refusal(f, file, proof, 0x50, forms::proof_mark(form), p.narrow, s)
+    check_record(f, file, proof, 0x50, forms::proof_mark(form), p.narrow, s)
 }

@@ -1,40 +1,38 @@
-use mathlib.Core.Path.{◌≡◌, refl, sym}
+use mathlib.Core.Path.{◌≡◌, sym}
 use mathlib.Core.List.{List}
 use Prim.Native.Nat.{ℕ, ◌^◌, ◌≤◌}
 use native.Mathlib.Omega.{arith}
 use lib.ListN.{length, take}
 use lib.Seq.{length-take-le}
+use Rattle.std.proofs.lemmas.Result.{err_from_is_err_and}
 use Rattle.stored.specs.Bytes.{numbers_at}
 use Rattle.stored.proofs.CheckLaws.{read-passes}
 use Rattle.stored.specs.File.{file_limit, small_dim, modulus_in, basis_in, word_in}
 use Rattle.stored.specs.declared.Reading.{Reading}
-use Rattle.coins.specs.Answer.{told-long, told_refused, told_totals}
+use Rattle.coins.specs.Answer.{told_refused, told_totals}
 use Rattle.coins.specs.Tally.{Readable}
 use Rattle.coins.specs.Totals.{Off}
 use Rattle.coins.proofs.FileSymbols.{symbol_count, small, few_symbols, word-front, word_set, word_off}
-use Rattle.coins.proofs.count.Goals.{After-read-r, After-word_of-places, After-off-off}
+use Rattle.coins.proofs.count.Goals.{In_ok-r, After-word_of-places, After-off-off}
 use Rattle.coins.proofs.count.Goals as goal
 
-pub returns-then-file-gt-FILE_LIMIT : goal.returns-then-file-gt-FILE_LIMIT
-returns-then-file-gt-FILE_LIMIT c = told-long c.args.file.now c.refused.result c.if-file-gt-FILE_LIMIT.true c.refused.ensures
-
-pub returns-then-number-ne0 : goal.returns-then-number-ne0
-returns-then-number-ne0 c = let t = (goal.at.returns-then-number-ne0 c).After-read-r in
-    told_refused t.args.file.now c.refused-then-number-ne0.result t.if-file-gt-FILE_LIMIT.false t.read-r.result t.read-r.ensures c.if-number-ne0.true c.refused-then-number-ne0.ensures
+pub returns-in_err-r : goal.returns-in_err-r
+returns-in_err-r c = let out = err_from_is_err_and c.from_residual.result c.from_residual.ensures.1 in
+    rw (out.1, out.2) (told_refused c.args.file.now c.if-file-gt-FILE_LIMIT.false c.in_err-r.field-0.0 c.in_err-r.ensures)
 
 -- the word is decoded
 module _ (c : goal.After-word_of-places) where
-  abbrev reading : goal.After-read-r
-  reading = (goal.at.After-word_of-places c).After-read-r
+  abbrev reading : goal.In_ok-r
+  reading = (goal.at.After-word_of-places c).In_ok-r
 
   abbrev bytes : List ℕ
   bytes = reading.args.file.now
 
   abbrev found : Reading
-  found = reading.read-r.result
+  found = reading.in_ok-r.r
 
   read : Readable bytes found
-  read = (reading.read-r.ensures, c.if-number-ne0.false)
+  read = reading.in_ok-r.ensures
 
   short : length bytes ≤ file_limit
   short = reading.if-file-gt-FILE_LIMIT.false
@@ -72,9 +70,9 @@ module _ (c : goal.After-off-off) where
   word-differs : Off (modulus_in (bytes decoded)) (basis_in (bytes decoded)) (word_in (bytes decoded)) c.off-off.result
   word-differs = let t = decoded in word_off (bytes t) (found t) (read t) (short t) (word t) c.off-off.result (word-is t) c.off-off.ensures
 
-pub all_coins-t-requires : goal.all_coins-t-requires
-all_coins-t-requires c = let t = decoded c in (read t, short t)
+pub all_coins-sweep-requires : goal.all_coins-sweep-requires
+all_coins-sweep-requires c = let t = decoded c in (read t, short t)
 
 pub returns : goal.returns
 returns c = let t = decoded (goal.at.returns c).After-off-off in
-    told_totals (bytes t) _ (short t) (read-passes (bytes t) (found t) (read t).0 (read t).1) refl (record { swept = c.all_coins-t.ensures; off = word-differs (goal.at.returns c).After-off-off })
+    told_totals (bytes t) (short t) (read-passes (bytes t) (found t) (read t)) _ (record { swept = c.all_coins-sweep.ensures; off = word-differs (goal.at.returns c).After-off-off })

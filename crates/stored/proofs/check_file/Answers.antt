@@ -3,52 +3,52 @@ use mathlib.Core.List.{List}
 use Prim.Native.Nat.{ℕ, ◌/◌, ◌^◌, ◌≤◌, ◌<◌}
 use native.Mathlib.Omega.{arith}
 use borrow.Author.Tests.{eq-eqb, ne_eqb}
+use Rattle.std.proofs.lemmas.Result.{err_from_is_err_and}
 use Rattle.lists.specs.Decides.{decides_true, decides_false}
 use Rattle.field.specs.Checks.{not-less}
 use Rattle.field.specs.Ranges.{high-bits_test}
 use Rattle.proximity.specs.Dim.{R}
 use Rattle.proximity.specs.LineLaws.{R-small}
+use Rattle.refusals.specs.Refusal.{number}
 use Rattle.stored.proofs.CheckLaws.{refused_file, refused_coin, read-passes, read_dimension, read-basis, read-images, read_space, read_laid, read_answer}
 use Rattle.stored.specs.File.{dim_in, basis_in}
 use Rattle.stored.specs.declared.Reading.{Reading}
 use Rattle.space.specs.Sizes.{max_dim}
-use Rattle.stored.proofs.check_file.Goals.{After-read-r, Else-number-ne0, After-coin_bits}
+use Rattle.stored.proofs.check_file.Goals.{In_ok-found, After-coin_bits}
 use Rattle.stored.proofs.check_file.Goals as goal
 
-pub returns-then-number-ne0 : goal.returns-then-number-ne0
-returns-then-number-ne0 c = let t = (goal.at.returns-then-number-ne0 c).After-read-r in
-    refused_file t.args.file.now t.args.coin t.read-r.result t.read-r.ensures c.if-number-ne0.true
+pub returns-in_err-found : goal.returns-in_err-found
+returns-in_err-found c = let out = err_from_is_err_and c.from_residual.result c.from_residual.ensures.1 in
+    rw (out.1, out.2) (refused_file c.args.file.now c.args.coin (number c.in_err-found.field-0.0) c.in_err-found.ensures)
 
 -- the file is accepted
-module _ (c : goal.Else-number-ne0) where
-  abbrev got : goal.After-read-r
-  got = (goal.at.Else-number-ne0 c).After-read-r
-
+module _ (c : goal.In_ok-found) where
   abbrev bytes : List ℕ
-  bytes = got.args.file.now
+  bytes = c.args.file.now
 
   abbrev coin : ℕ
-  coin = got.args.coin
+  coin = c.args.coin
 
   abbrev found : Reading
-  found = got.read-r.result
+  found = c.in_ok-found.found
 
   dimension : found.setting.space.k ≡ dim_in bytes
-  dimension = read_dimension bytes found got.read-r.ensures c.if-number-ne0.false
+  dimension = read_dimension bytes found c.in_ok-found.ensures
 
   few : found.setting.space.k ≤ max_dim
-  few = (read_laid bytes found got.read-r.ensures c.if-number-ne0.false).few
+  few = (read_laid bytes found c.in_ok-found.ensures).few
 
 pub coin_bits-requires : goal.coin_bits-requires
-coin_bits-requires c = few c
+coin_bits-requires c = few (goal.at.coin_bits-requires c).In_ok-found
 
 pub overflow_shr-coin : goal.overflow_shr-coin
-overflow_shr-coin c = omega (arith, c.coin_bits.ensures, R-small (found (goal.at.overflow_shr-coin c).Else-number-ne0).setting.space.k (omega (arith, few (goal.at.overflow_shr-coin c).Else-number-ne0)))
+overflow_shr-coin c = let o = (goal.at.overflow_shr-coin c).In_ok-found in
+    omega (arith, c.coin_bits.ensures, R-small (found o).setting.space.k (omega (arith, few o)))
 
 -- the test of the coin
 module _ (c : goal.After-coin_bits) where
-  abbrev here : goal.Else-number-ne0
-  here = (goal.at.After-coin_bits c).Else-number-ne0
+  abbrev here : goal.In_ok-found
+  here = (goal.at.After-coin_bits c).In_ok-found
 
   bits : c.coin_bits.result ≡ R (dim_in (bytes here))
   bits = c.coin_bits.ensures ∙ ap R (dimension here)
@@ -66,20 +66,17 @@ module _ (c : goal.After-coin_bits) where
 pub returns-then-coin-coin_bits-ne0 : goal.returns-then-coin-coin_bits-ne0
 returns-then-coin-coin_bits-ne0 c = let t = (goal.at.returns-then-coin-coin_bits-ne0 c).After-coin_bits in
     let h = here t in
-    refused_coin (bytes h) (coin h) (read-passes (bytes h) (found h) (got h).read-r.ensures h.if-number-ne0.false) (high t c.if-coin-coin_bits-ne0.true)
+    refused_coin (bytes h) (coin h) (read-passes (bytes h) (found h) h.in_ok-found.ensures) (high t c.if-coin-coin_bits-ne0.true)
 
 pub verdict-requires : goal.verdict-requires
-verdict-requires c = let h = here (goal.at.verdict-requires c).After-coin_bits in
-    let f = bytes h in
-    let e = (got h).read-r.ensures in
-    let z = h.if-number-ne0.false in
-    (read_space f (found h) e z, read_laid f (found h) e z)
+verdict-requires c = let h = (goal.at.verdict-requires c).In_ok-found in
+    let t = h.in_ok-found.ensures in
+    (read_space (bytes h) (found h) t, read_laid (bytes h) (found h) t)
 
 pub returns : goal.returns
 returns c = let t = (goal.at.returns c).After-coin_bits in
     let h = here t in
     let f = bytes h in
-    let e = (got h).read-r.ensures in
-    let z = h.if-number-ne0.false in
-    read_answer f (found h) e z (coin h) (low t c.if-coin-coin_bits-ne0.false) c.verdict.result
-    (c.verdict.ensures (basis_in f) (read-basis f (found h) e z) (read-images f (found h) e z))
+    let o = h.in_ok-found.ensures in
+    read_answer f (found h) o (coin h) (low t c.if-coin-coin_bits-ne0.false) c.verdict.result
+    (c.verdict.ensures (basis_in f) (read-basis f (found h) o) (read-images f (found h) o))

@@ -1,48 +1,37 @@
-use mathlib.Core.Path.{◌≡◌, refl, ap₂}
-use mathlib.Core.Logic.{inl, inr}
-use mathlib.Core.List.{List}
+use mathlib.Core.Path.{◌≡◌, ap₂}
 use Prim.Native.Nat.{ℕ, ◌-◌}
 use native.Mathlib.Omega.{arith}
 use lib.ListN.{take, drop}
+use Rattle.std.proofs.lemmas.Result.{err_from_is_err_and}
 use Rattle.proximity.specs.Dim.{S}
 use Rattle.stored.specs.Accepted.{Places}
-use Rattle.stored.proofs.Accepted.{told_accepted, told_refuses, read_places}
+use Rattle.stored.proofs.Accepted.{read_places}
 use Rattle.stored.specs.Bytes.{packed_size}
 use Rattle.stored.specs.File.{dim_in, narrow_in}
-use Rattle.stored.specs.Reader.{file_checks}
-use Rattle.stored.proofs.proof_part.Goals.{After-read-r, Else-refusal-ne0}
+use Rattle.stored.proofs.proof_part.Goals.{In_ok-r}
 use Rattle.stored.proofs.proof_part.Goals as goal
 
-pub returns-then-refusal-ne0 : goal.returns-then-refusal-ne0
-returns-then-refusal-ne0 c = let t = (goal.at.returns-then-refusal-ne0 c).After-read-r in
-    let f = t.args.file.now in
-    inr (told_refuses f (file_checks f) t.read-r.result t.read-r.ensures c.if-refusal-ne0.true, refl)
+pub returns-in_err-r : goal.returns-in_err-r
+returns-in_err-r c = let out = err_from_is_err_and c.from_residual.result c.from_residual.ensures.1 in
+    rw (out.1, out.2) c.in_err-r.ensures
 
 -- the file is accepted
-module _ (c : goal.Else-refusal-ne0) where
-  abbrev bytes : List ℕ
-  bytes = c.args.file.now
+places : (c : goal.In_ok-r) → Places c.args.file.now c.in_ok-r.r
+places c = read_places c.args.file.now c.in_ok-r.r c.in_ok-r.ensures
 
-  places : Places bytes c.read-r.result
-  places = read_places bytes c.read-r.result c.read-r.ensures c.if-refusal-ne0.false
+pub slice_bounds-result-count : goal.slice_bounds-result-count
+slice_bounds-result-count c = let p = places (goal.at.slice_bounds-result-count c).In_ok-r in omega (arith, p.word, p.proof, p.end)
 
-pub slice_bounds-result-count-2 : goal.slice_bounds-result-count-2
-slice_bounds-result-count-2 c = omega (arith, (places c).word, (places c).proof, (places c).end)
+pub slice_bounds-result-start : goal.slice_bounds-result-start
+slice_bounds-result-start c = let p = places (goal.at.slice_bounds-result-start c).In_ok-r in omega (arith, p.word, p.proof, p.end)
 
-pub slice_bounds-result-start-2 : goal.slice_bounds-result-start-2
-slice_bounds-result-start-2 c = omega (arith, (places c).word, (places c).proof, (places c).end)
-
-pub slice_bounds-result-end-2 : goal.slice_bounds-result-end-2
-slice_bounds-result-end-2 c = omega (arith, (places c).word, (places c).proof, (places c).end, (places c).whole)
+pub slice_bounds-result-end : goal.slice_bounds-result-end
+slice_bounds-result-end c = let p = places (goal.at.slice_bounds-result-end c).In_ok-r in omega (arith, p.word, p.proof, p.end, p.whole)
 
 pub returns : goal.returns
-returns c = let e = (goal.at.returns c).Else-refusal-ne0 in
-    let f = bytes e in
-    let r = e.read-r in
-    let p = places e in
-    let count : r.result.end - r.result.proof ≡ packed_size (narrow_in f) (S (dim_in f)) = omega (arith, p.word, p.proof, p.end) in
-    inl (
-      (told_accepted f (file_checks f) r.result r.ensures e.if-refusal-ne0.false).0,
-      ap₂ (λ (n s : ℕ). take n (drop s f)) count p.proof,
-      e.if-refusal-ne0.false,
-    )
+returns c = let o = (goal.at.returns c).In_ok-r in
+    let f = o.args.file.now in
+    let r = o.in_ok-r.r in
+    let p = places o in
+    let count : r.end - r.proof ≡ packed_size (narrow_in f) (S (dim_in f)) = omega (arith, p.word, p.proof, p.end) in
+    (o.in_ok-r.ensures.0, ap₂ (λ (n s : ℕ). take n (drop s f)) count p.proof)

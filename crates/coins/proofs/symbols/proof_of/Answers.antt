@@ -13,7 +13,7 @@ use Rattle.coins.proofs.symbols.proof_of.Goals.{Start, After-no_proof-proof, Aft
 use Rattle.coins.proofs.symbols.proof_of.Goals as goal
 
 pub proof_length-s-requires : goal.proof_length-s-requires
-proof_length-s-requires c = let s = (goal.at.proof_length-s-requires c).Start in (read_laid s.args.file.now s.args.r s.requires.0.0 s.requires.0.1).few
+proof_length-s-requires c = let s = (goal.at.proof_length-s-requires c).Start in (read_laid s.args.file.now s.args.r s.requires.0).few
 
 -- the part that is lent
 module _ (c : goal.After-no_proof-proof) where
@@ -48,7 +48,7 @@ pub numbers_at-requires : goal.numbers_at-requires
 numbers_at-requires c = let t = (goal.at.numbers_at-requires c).After-no_proof-proof in
     let s = start t in
     subst (λ (m : ℕ). (found t).proof + packed_size (found t).narrow m ≤ length (bytes t)) (sym (part t ∙ t.proof_length-s.ensures))
-    (read_laid (bytes t) (found t) s.requires.0.0 s.requires.0.1).proof-fits
+    (read_laid (bytes t) (found t) s.requires.0).proof-fits
 
 pub returns : goal.returns
 returns c = let e = (goal.at.returns c).After-numbers_at in

@@ -48,7 +48,7 @@ pub numbers_at-requires : goal.numbers_at-requires
 numbers_at-requires c = let t = (goal.at.numbers_at-requires c).After-no_word-word in
     let s = start t in
     subst (λ (m : ℕ). (found t).word + packed_size (found t).narrow m ≤ length (bytes t)) (sym (part t ∙ count-is (bytes t) (found t) s.requires.0 s.requires.1))
-    (read_laid (bytes t) (found t) s.requires.0.0 s.requires.0.1).word_fits
+    (read_laid (bytes t) (found t) s.requires.0).word_fits
 
 pub returns : goal.returns
 returns c = let e = (goal.at.returns c).After-numbers_at in

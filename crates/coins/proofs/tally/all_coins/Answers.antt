@@ -17,6 +17,7 @@ use Rattle.stored.specs.Check.{AnsweredFile}
 use Rattle.stored.proofs.CheckLaws.{read-passes, read_dimension, read-basis, read-images, read_space, read_laid, read_answer}
 use Rattle.stored.specs.File.{dim_in, basis_in}
 use Rattle.stored.specs.Packed.{length_numbers}
+use Rattle.std.specs.Prelude.{Ok}
 use Rattle.stored.specs.Reader.{file_checks, Told}
 use Rattle.stored.specs.declared.Reading.{Reading}
 use Rattle.coins.specs.Counted.{Counted, counted-most}
@@ -35,14 +36,11 @@ module _ (c : goal.Start) where
   abbrev found : Reading
   found = c.args.r
 
-  abbrev told : Told (file_checks bytes) bytes found
-  told = c.requires.0.0
-
-  abbrev none : found.refusal ≡ 0
-  none = c.requires.0.1
+  abbrev told : Told (file_checks bytes) bytes (Ok found)
+  told = c.requires.0
 
   few : found.setting.space.k ≤ max_dim
-  few = (read_laid bytes found told none).few
+  few = (read_laid bytes found told).few
 
 pub overflow_shl-n : goal.overflow_shl-n
 overflow_shl-n c = omega (arith, few (goal.at.overflow_shl-n c).Start)
@@ -83,7 +81,7 @@ module _ (c : goal.After-coin_bits) where
   small = omega (arith, c.coin_bits.ensures, R-small k (omega (arith, few start)))
 
   dimension : k ≡ dim_in (bytes start)
-  dimension = read_dimension (bytes start) (found start) (told start) (none start)
+  dimension = read_dimension (bytes start) (found start) (told start)
 
   all_coins : coins ≡ 2 ^ R (dim_in (bytes start))
   all_coins = one_shifted c.coin_bits.result (omega (arith, small)) ∙ ap (λ (n : ℕ). 2 ^ n) (c.coin_bits.ensures ∙ ap R dimension)
@@ -110,7 +108,7 @@ pub overflow_shl-coins : goal.overflow_shl-coins
 overflow_shl-coins c = omega (arith, small c)
 
 pub loop-coin-init : goal.loop-coin-init
-loop-coin-init c = (omega arith, refl, refl)
+loop-coin-init c = (refl, refl)
 
 pub slice_bounds-word-end : goal.slice_bounds-word-end
 slice_bounds-word-end c = word_fits (goal.at.slice_bounds-word-end c).After-coin_bits
@@ -127,7 +125,7 @@ slice_bounds-check_word-end-in-loop-coin c = sym (length-take-le _ _ (proof-fits
 pub check_word-v-requires : goal.check_word-v-requires
 check_word-v-requires c = let t = (goal.at.check_word-v-requires c).After-coin_bits in
     let s = start t in (
-      read_space (bytes s) (found s) (told s) (none s),
+      read_space (bytes s) (found s) (told s),
       ap length (word-is t) ∙ length_numbers (found s).narrow (bytes s) (found s).word (2 ^ k t),
       ap length (proof-is t) ∙ length_numbers (found s).narrow (bytes s) (found s).proof (S (k t)),
     )
@@ -153,11 +151,11 @@ module _ (c : goal.After-check_word-v) where
       let b = basis_in file in
       let m = r.setting.field.modulus in
       let v = c.check_word-v.result in
-      read_answer file r (told s) (none s) head.loop-coin.coin inside v
-      (transport (λ i. OnCoin (symbols m) (k at) b (word-is at i) (proof-is at i) head.loop-coin.coin v) (c.check_word-v.ensures b (read-basis file r (told s) (none s)) (read-images file r (told s) (none s))))
+      read_answer file r (told s) head.loop-coin.coin inside v
+      (transport (λ i. OnCoin (symbols m) (k at) b (word-is at i) (proof-is at i) head.loop-coin.coin v) (c.check_word-v.ensures b (read-basis file r (told s)) (read-images file r (told s))))
 
   passed : Passes (file_checks file)
-  passed = read-passes file (found (start at)) (told (start at)) (none (start at))
+  passed = read-passes file (found (start at)) (told (start at))
 
 pub rejecting-rejects-requires : goal.rejecting-rejects-requires
 rejecting-rejects-requires c = tt
@@ -165,26 +163,19 @@ rejecting-rejects-requires c = tt
 pub overflow_add-rejects : goal.overflow_add-rejects
 overflow_add-rejects c = let t = (goal.at.overflow_add-rejects c).After-check_word-v in
     let h = head t in
-    let next = count_verdict (file t) (passed t) h.loop-coin.coin (inside t) t.check_word-v.result (answered t) h.loop-coin.rejects h.loop-coin.invariant.1 in
+    let next = count_verdict (file t) (passed t) h.loop-coin.coin (inside t) t.check_word-v.result (answered t) h.loop-coin.rejects h.loop-coin.invariant.0 in
     omega (arith, c.rejecting-rejects.ensures, counted-most (Rejects (file t)) (h.loop-coin.coin + 1) next, bounded (at t))
 
 pub reads-requires : goal.reads-requires
 reads-requires c = tt
 
-pub larger-most-requires : goal.larger-most-requires
-larger-most-requires c = tt
-
-pub overflow_add-coin : goal.overflow_add-coin
-overflow_add-coin c = omega (arith, bounded (at (goal.at.overflow_add-coin c).After-check_word-v))
-
 pub loop-coin-preserved : goal.loop-coin-preserved
 loop-coin-preserved c = let t = (goal.at.loop-coin-preserved c).After-check_word-v in
     let h = head t in
     let f = file t in (
-      omega arith,
       subst (λ (n : ℕ). Counted (Rejects f) (h.loop-coin.coin + 1) (h.loop-coin.rejects + n)) (sym c.rejecting-rejects.ensures)
-          (count_verdict f (passed t) h.loop-coin.coin (inside t) t.check_word-v.result (answered t) h.loop-coin.rejects h.loop-coin.invariant.1),
-      c.larger-most.ensures ∙ ap₂ max h.loop-coin.invariant.2 c.reads.ensures ∙ most_verdict f (passed t) h.loop-coin.coin (inside t) t.check_word-v.result (answered t),
+          (count_verdict f (passed t) h.loop-coin.coin (inside t) t.check_word-v.result (answered t) h.loop-coin.rejects h.loop-coin.invariant.0),
+      c.max-most.ensures ∙ ap₂ max h.loop-coin.invariant.1 c.reads.ensures ∙ most_verdict f (passed t) h.loop-coin.coin (inside t) t.check_word-v.result (answered t),
     )
 
 pub returns : goal.returns
@@ -195,6 +186,6 @@ returns c = let h = (goal.at.returns c).At-loop-coin in
     record {
       dimension = dimension t;
       all = all_coins t;
-      rejecting = subst (λ (n : ℕ). Counted (Rejects f) n h.loop-coin.rejects) last h.loop-coin.invariant.1;
-      reads = h.loop-coin.invariant.2 ∙ ap (λ (n : ℕ). most_of n (reads_of (dim_in f))) last;
+      rejecting = subst (λ (n : ℕ). Counted (Rejects f) n h.loop-coin.rejects) last h.loop-coin.invariant.0;
+      reads = h.loop-coin.invariant.1 ∙ ap (λ (n : ℕ). most_of n (reads_of (dim_in f))) last;
     }

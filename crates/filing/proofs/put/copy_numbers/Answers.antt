@@ -6,13 +6,9 @@ use lib.ListN.{length, get_or}
 use Rattle.lists.specs.All.{All-inside}
 use Rattle.stored.specs.Bytes.{packed, packed_size, numbers_at}
 use Rattle.stored.specs.Packed.{number_top, size-more, length_numbers, get_or_numbers}
-use Rattle.filing.specs.Put.{Put, put-nothing, put_next, put_all}
+use Rattle.filing.specs.Put.{Put, put_next, put_all}
 use Rattle.filing.proofs.put.copy_numbers.Goals.{Start, At-loop-i, In-loop-i, After-number_at-x, After-put_number}
 use Rattle.filing.proofs.put.copy_numbers.Goals as goal
-
-pub loop-i-init : goal.loop-i-init
-loop-i-init c = let a = c.args in
-    (omega arith, put-nothing a.target a.at (numbers_at a.narrow a.file.now a.from a.count) a.out.now)
 
 -- number i
 module _ (c : goal.In-loop-i) where
@@ -34,9 +30,6 @@ module _ (c : goal.In-loop-i) where
   inside : i < length xs
   inside = omega (arith, less, length_numbers start.args.narrow start.args.file.now start.args.from start.args.count)
 
-pub number_at-x-requires : goal.number_at-x-requires
-number_at-x-requires c = let a = start c in omega (arith, size-more a.args.narrow (less c), a.requires.0)
-
 -- the number that was read
 module _ (c : goal.After-number_at-x) where
   abbrev here : goal.In-loop-i
@@ -51,7 +44,7 @@ pub put_number-requires : goal.put_number-requires
 put_number-requires c = let s = (goal.at.put_number-requires c).After-number_at-x in
     let l = here s in
     let a = start l in (
-      omega (arith, size-more a.args.target (less l), a.requires.1, (head l).loop-i.invariant.1.kept),
+      omega (arith, size-more a.args.target (less l), a.requires.1, (head l).loop-i.invariant.kept),
       subst (λ (x : ℕ). x < number_top a.args.target) (read s) (All-inside (λ (x : ℕ). x < number_top a.args.target) (xs l) 0 a.requires.2 (i l) (inside l)),
     )
 
@@ -61,16 +54,11 @@ loop-i-preserved c = let p = (goal.at.loop-i-preserved c).After-put_number in
     let l = here s in
     let h = head l in
     let a = (start l).args in
-    let t = a.target in (
-      omega arith,
-      put_next t (xs l) (inside l) h.loop-i.invariant.1
-          (subst (λ (x : ℕ). Put (a.at + packed_size t (i l)) (packed t (x ∷ [])) h.loop-i.out p.put_number.new.out) (sym (read s)) p.put_number.ensures),
-    )
-
-pub shape_of-out : goal.shape_of-out
-shape_of-out c = c.loop-i.invariant.1.kept
+    let t = a.target in
+    put_next t (xs l) (inside l) h.loop-i.invariant
+    (subst (λ (x : ℕ). Put (a.at + packed_size t (i l)) (packed t (x ∷ [])) h.loop-i.out p.put_number.new.out) (sym (read s)) p.put_number.ensures)
 
 pub returns : goal.returns
 returns c = let h = (goal.at.returns c).At-loop-i in
     let a = h.args in
-    put_all a.target {i = h.loop-i.i} (numbers_at a.narrow a.file.now a.from a.count) (omega (arith, length_numbers a.narrow a.file.now a.from a.count)) h.loop-i.invariant.1
+    put_all a.target {i = h.loop-i.i} (numbers_at a.narrow a.file.now a.from a.count) (omega (arith, length_numbers a.narrow a.file.now a.from a.count)) h.loop-i.invariant

@@ -1,12 +1,8 @@
 -- The loop's invariant: the first i numbers are written.
-use Prim.Native.Nat.{◌-◌, ◌≤◌}
 use lib.ListN.{take}
 use Rattle.stored.specs.Bytes.{packed, numbers_at}
 use Rattle.filing.specs.Put.{Put}
 use Rattle.filing.proofs.put.copy_numbers.Given as goal
 
 abbrev pub invariant-loop-i : goal.invariant-loop-i
-invariant-loop-i l = (l.i ≤ l.count) × Put l.at (packed l.target (take l.i (numbers_at l.narrow l.file l.from l.count))) l.initial.out l.out
-
-abbrev pub decreases-loop-i : goal.decreases-loop-i
-decreases-loop-i l = l.count - l.i
+invariant-loop-i l = Put l.at (packed l.target (take l.i (numbers_at l.narrow l.file l.from l.count))) l.initial.out l.out

@@ -39,14 +39,14 @@ module _ (c : goal.At-loop-i) where
   length-zeros = length-take-le (half / 2) start.args.none.now (omega (arith, half-small, start.requires.0.zeros.many))
 
   folded : Folded start.args.f.modulus start.args.table.now j c.loop-i.i start.args.at start.args.values.now c.loop-i.values
-  folded = c.loop-i.invariant.2 start.requires.0.irreducible start.requires.1
+  folded = c.loop-i.invariant.1 start.requires.0.irreducible start.requires.1
 
 pub power-half-requires : goal.power-half-requires
 power-half-requires c = omega (arith, c.requires.0.few)
 
 pub loop-i-init : goal.loop-i-init
 loop-i-init c = let a = c.args in
-    (omega arith, refl, λ irr b. folded-none a.f.modulus irr a.table.now a.j a.at a.values.now b)
+    (refl, λ irr b. folded-none a.f.modulus irr a.table.now a.j a.at a.values.now b)
 
 pub power-p-requires : goal.power-p-requires
 power-p-requires c = omega (arith, (start (goal.at.power-p-requires c).At-loop-i).requires.0.few)
@@ -78,12 +78,11 @@ pub loop-i-preserved : goal.loop-i-preserved
 loop-i-preserved c = let at = (goal.at.loop-i-preserved c).After-power-p in
     let here = (goal.at.After-power-p at).At-loop-i in
     let a = (start here).args in (
-      omega arith,
-      c.add_products.auto.values ∙ here.loop-i.invariant.1,
+      c.add_products.auto.values ∙ here.loop-i.invariant.0,
       λ irr b. fold_turn a.f.modulus irr a.table.now (j here) here.loop-i.i a.at (half here) at.power-p.result a.values.now here.loop-i.values _ (zeros here)
           (half_is here) at.power-p.ensures (omega arith) (start here).requires.2
           (All-take IsZero (half here / 2) a.none.now (start here).requires.0.zeros.zero) (length-zeros here ∙ ap (λ (n : ℕ). n / 2) (half_is here))
-          c.add_products.ensures (here.loop-i.invariant.2 irr b),
+          c.add_products.ensures (here.loop-i.invariant.1 irr b),
     )
 
 pub returns : goal.returns

@@ -51,7 +51,7 @@ module _ (c : goal.After-power-n) where
   all-zero = All-take IsZero n start.args.none.now start.requires.4.zero
 
   doubled : (irr : Irreducible m) → Doubled m irr steps j head.loop-j.out
-  doubled irr = head.loop-j.invariant.1 irr
+  doubled irr = head.loop-j.invariant irr
 
   more : (irr : Irreducible m) → Doubled m irr steps (j + 1) (accumulated m (get_or steps j 0) zeros 0 n head.loop-j.out)
   more irr =
@@ -60,7 +60,7 @@ module _ (c : goal.After-power-n) where
 
 pub loop-j-init : goal.loop-j-init
 loop-j-init c = let a = c.args in
-    (omega arith, λ irr. doubled_start a.f.modulus irr a.steps.now c.room-out.result c.room-out.ensures)
+    λ irr. doubled_start a.f.modulus irr a.steps.now c.room-out.result c.room-out.ensures
 
 pub power-n-requires : goal.power-n-requires
 power-n-requires c = omega (arith, c.requires.2)
@@ -87,9 +87,9 @@ add_products-requires c = let at = (goal.at.add_products-requires c).After-power
 
 pub loop-j-preserved : goal.loop-j-preserved
 loop-j-preserved c = let at = (goal.at.loop-j-preserved c).After-power-n in
-    (omega arith, λ irr. subst (Doubled (m at) irr (steps at) (j at + 1)) (sym c.add_products.ensures) (more at irr))
+    λ irr. subst (Doubled (m at) irr (steps at) (j at + 1)) (sym c.add_products.ensures) (more at irr)
 
 pub returns : goal.returns
 returns c = let head = (goal.at.returns c).At-loop-j in
     let start = (goal.at.At-loop-j head).Start in
-    scales_all start.args.f.modulus start.requires.1 start.args.steps.now (omega arith) (head.loop-j.invariant.1 start.requires.1)
+    scales_all start.args.f.modulus start.requires.1 start.args.steps.now (omega arith) (head.loop-j.invariant start.requires.1)

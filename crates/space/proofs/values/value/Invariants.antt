@@ -1,4 +1,4 @@
--- The loop's invariant: y is W_i(x).
+-- The loop's invariant: y is W_i(x), i the index of the step.
 use mathlib.Core.Path.{◌≡◌}
 use Rattle.space.specs.Values.{value_at}
 use Rattle.space.proofs.values.value.Given as goal

@@ -5,7 +5,9 @@ use native.Mathlib.Omega.{arith}
 use lib.ListN.{length, take}
 use lib.Pow.{pow_mono}
 use lib.Seq.{length-take-le}
+use Rattle.std.specs.Prelude.{Result}
 use Rattle.field.specs.declared.Field.{Field}
+use Rattle.refusals.specs.declared.Refusal.{Refusal}
 use Rattle.proximity.specs.Dim.{S}
 use Rattle.proximity.specs.Tree.{S_leaf}
 use Rattle.verifier.specs.Checker.{symbols_at, reads_of}
@@ -49,7 +51,7 @@ module _ (c : goal.After-leaf_space-t) where
   u = c.leaf_space-t.result.images
 
   leaf : (m ≤ 6) × (2 ^ m ≡ reads_of k coin) × InSpace f m u
-      × ((v : Verdict) (short ρ : List ℕ) (i : ℕ) → short ≡ symbols_at k w π coin → Claim f m u short ρ i v → Claim f k start.args.s.images w π coin v)
+      × ((v : Result Verdict Refusal) (short ρ : List ℕ) (i : ℕ) → short ≡ symbols_at k w π coin → Claim f m u short ρ i v → Claim f k start.args.s.images w π coin v)
   leaf =
       leaf_facts f k start.args.s.images start.requires.0 w π (length_numbers start.args.narrow start.args.file.now start.args.word (2 ^ k))
       (length_numbers start.args.narrow start.args.file.now start.args.proof (S k)) coin m u c.leaf_space-t.ensures
