@@ -1,4 +1,4 @@
-use mathlib.Core.Path.{◌≡◌, refl, sym, ap, ◌∙◌}
+use mathlib.Core.Path.{◌≡◌, refl}
 use mathlib.Core.List.{List}
 use Prim.Native.Nat.{ℕ}
 use native.Mathlib.Omega.{arith}
@@ -7,7 +7,7 @@ use Rattle.std.proofs.lemmas.Result.{err_from_is_err_and}
 use Rattle.lists.specs.Answers.{Passes}
 use Rattle.refusals.specs.Refusal.{number}
 use Rattle.filing.specs.Convert.{converted_end, shift_checks, convert_checks}
-use Rattle.filing.specs.ConvertLaws.{length_converted, convert_refused, convert_long, convert_passes, convert_passed}
+use Rattle.filing.specs.ConvertLaws.{convert_refused, convert_long, convert_passes}
 use Rattle.filing.proofs.convert.Goals.{In_ok-length, Else-out-length, After-copy}
 use Rattle.filing.proofs.convert.Goals as goal
 
@@ -38,13 +38,6 @@ passed c = let e = (goal.at.Else-out-length c).In_ok-length in convert_passes (b
 
 pub copy-requires : goal.copy-requires
 copy-requires c = passed (goal.at.copy-requires c).Else-out-length
-
-pub shape_of-out : goal.shape_of-out
-shape_of-out c = let p = (goal.at.shape_of-out c).After-copy in
-    let e = (goal.at.After-copy p).Else-out-length in
-    let l = (goal.at.Else-out-length e).In_ok-length in
-    let q = convert_passed (bytes l) (room l) (passed e) in
-    ap length p.copy.ensures ∙ length_converted (bytes l) q.0 ∙ sym q.2
 
 pub returns : goal.returns
 returns c = let p = (goal.at.returns c).After-copy in (passed (goal.at.After-copy p).Else-out-length, p.copy.ensures)

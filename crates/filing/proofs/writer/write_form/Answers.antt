@@ -68,9 +68,6 @@ module _ (c : goal.In_ok-f) where
   few : length bs ≤ max_dim
   few = given.setting.high
 
-pub layout-p-requires : goal.layout-p-requires
-layout-p-requires c = let h = (goal.at.layout-p-requires c).In_ok-f in (h.in_ok-f.ensures.1.sized, few h)
-
 -- the places
 module _ (c : goal.After-layout-p) where
   abbrev e : goal.In_ok-f
@@ -105,15 +102,6 @@ module _ (c : goal.After-layout-p) where
   short xs b =
       subst (λ (u : Bool). Below (number_top u) xs) (sym narrow)
       (All-weaken (λ (x : ℕ). x < 2 ^ degree (m e)) (λ (x : ℕ). x < number_top t) xs (λ x l. lt_of_lt_of_le l (narrow_top (g e) (degree (m e)) (degree_range (m e) (given e).setting.modulus).1)) b)
-
-pub overflow_sub-second : goal.overflow_sub-second
-overflow_sub-second c = let l = (goal.at.overflow_sub-second c).After-layout-p in omega (arith, ap (λ (x : Layout). x.word) (found l))
-
-pub overflow_sub-third : goal.overflow_sub-third
-overflow_sub-third c = let l = (goal.at.overflow_sub-third c).After-layout-p in omega (arith, ap (λ (x : Layout). x.proof) (found l))
-
-pub put_setting-requires : goal.put_setting-requires
-put_setting-requires c = let h = e (goal.at.put_setting-requires c).After-layout-p in (omega (arith, few h), omega (arith, room h))
 
 -- the setting is written
 module _ (c : goal.After-put_setting) where
@@ -177,9 +165,6 @@ module _ (c : goal.After-put_record-2) where
 
   written : new ≡ file_of (g h) (m h) (bs h) (σ h) (w h) (π h)
   written = put-file (g h) (m h) (bs h) (σ h) (w h) (π h) (given h).word (given h).proof (room h) (first (begun both)) (middle both) last
-
-pub shape_of-out : goal.shape_of-out
-shape_of-out c = let p = (goal.at.shape_of-out c).After-put_record-2 in (last p).kept ∙ (middle (both p)).kept ∙ (first (begun (both p))).kept
 
 pub returns : goal.returns
 returns c = let p = (goal.at.returns c).After-put_record-2 in (passes (h p), written p)
