@@ -17,7 +17,7 @@ use Rattle.refusals.specs.Gives.{number_positive}
 use Rattle.refusals.specs.Refusal.{number}
 use Rattle.refusals.specs.declared.Refusal.{Refusal}
 use Rattle.refusals.specs.declared.Refusal.TheVariants.{NoSymbol, NoCodeword}
-use Rattle.space.specs.Early.{early-passes, length_refused}
+use Rattle.space.specs.Early.{early-passes, setting_refused, length_refused}
 use Rattle.space.specs.Ready.{Ready, ready}
 use Rattle.space.specs.Setting.{setting_checks, setting_of, Settled}
 use Rattle.space.specs.Usable.{Usable, usable, own_ready}
@@ -38,7 +38,7 @@ abbrev pub Late : Checks → (List ℕ → Type 0) → List ℕ → List ℕ →
 Late ds Right old new (Ok u) = Passes ds × Right new
 Late ds Right old new (Err e) = (7 < number e) × Answers ds (number e) × (new ≡ old)
 
-module _ (m : ℕ) (bs : List ℕ) (σ : ℕ) (P Q : Type 0) (ds : Checks) (s : Setting) (g : Settled m bs σ (Ok s)) where
+module _ (m : ℕ) (bs : List ℕ) (σ : ℕ) (P Q : Type 0) (ds : Checks) where
   abbrev lengths : Checks
   lengths = (6, P) ∷ (7, Q) ∷ []
 
@@ -51,15 +51,20 @@ module _ (m : ℕ) (bs : List ℕ) (σ : ℕ) (P Q : Type 0) (ds : Checks) (s : 
   numbered : Numbered early
   numbered = (omega arith, (omega arith, (omega arith, (omega arith, (omega arith, (omega arith, (omega arith, (omega arith, tt))))))))
 
-  -- check 6 or 7 refuses
-  pub refused_lengths : (e : Refusal) → Answers lengths (number e) → (old scratch : List ℕ) → RefusedWith (early ++ ds) (number e) old old scratch scratch
-  refused_lengths e a old scratch = length_refused m bs σ lengths within ds (number e) old scratch g.0 (number_positive e, a)
+  -- the setting is refused
+  pub refused_setting : (e : Refusal) → Settled m bs σ (Err e) → (old scratch : List ℕ) → RefusedWith (early ++ ds) (number e) old old scratch scratch
+  refused_setting e g old scratch = setting_refused m bs σ lengths within ds (number e) old scratch g
 
-  -- they pass
-  module _ (q : Passes lengths) (Right : List ℕ → Type 0) (old new scratch left : List ℕ) (z : left ≡ zeros (length scratch)) where
-    pub told_late : (r : Result (Unit {0}) Refusal) → Late ds Right old new r → Told (early ++ ds) Right old new scratch left r
-    told_late (Ok u) (a, w) = accepted early ds numbered (early-passes m bs σ lengths g.0 q) Right new scratch left a w z
-    told_late (Err e) (h, a, w) = refused_late early ds numbered (early-passes m bs σ lengths g.0 q) (number e) old new scratch left h a w z
+  module _ (s : Setting) (g : Settled m bs σ (Ok s)) where
+    -- check 6 or 7 refuses
+    pub refused_lengths : (e : Refusal) → Answers lengths (number e) → (old scratch : List ℕ) → RefusedWith (early ++ ds) (number e) old old scratch scratch
+    refused_lengths e a old scratch = length_refused m bs σ lengths within ds (number e) old scratch g.0 (number_positive e, a)
+
+    -- they pass
+    module _ (q : Passes lengths) (Right : List ℕ → Type 0) (old new scratch left : List ℕ) (z : left ≡ zeros (length scratch)) where
+      pub told_late : (r : Result (Unit {0}) Refusal) → Late ds Right old new r → Told (early ++ ds) Right old new scratch left r
+      told_late (Ok u) (a, w) = accepted early ds numbered (early-passes m bs σ lengths g.0 q) Right new scratch left a w z
+      told_late (Err e) (h, a, w) = refused_late early ds numbered (early-passes m bs σ lengths g.0 q) (number e) old new scratch left h a w z
 
 -- ---- checks 9 and 10 of a word
 
@@ -74,50 +79,46 @@ module _ (m : ℕ) (bs : List ℕ) (σ : ℕ) (word : List ℕ) (Right : List �
     pub late_codeword : e ≡ NoCodeword → Below (2 ^ degree m) word → (CodewordAt (symbols m) σ (length bs) bs word → ⊥) → new ≡ old → Late (word_checks m bs σ word) Right old new (Err e)
     late_codeword h b c w = (omega (arith, ap number h), inr ((λ f. f b), inl (c, ap number h)), w)
 
--- ---- the encoder and the decoder, past check 7
+-- ---- past check 7, where what is said of the setting is said of its modulus, its basis and its shift
 
-module _ (m : ℕ) (bs : List ℕ) (σ : ℕ) (s : Setting) (g : Settled m bs σ (Ok s)) where
-  -- what is said of the setting is said of its modulus, its basis and its shift
-  abbrev setting : Setting
-  setting = setting_of m bs σ
+pub own_setting : (m : ℕ) (bs : List ℕ) (σ : ℕ) → Passes (setting_checks m bs σ) → Ready (setting_of m bs σ).field.modulus bs (setting_of m bs σ)
+own_setting m bs σ p = own_ready (ready m bs σ (setting_of m bs σ) (p, refl))
 
-  own : Ready setting.field.modulus bs setting
-  own = own_ready (ready m bs σ setting (g.0, refl))
+-- the encoder and the decoder
+module _ (m : ℕ) (bs : List ℕ) (σ : ℕ) (s : Setting) (g : Settled m bs σ (Ok s)) (coefficients word scratch : List ℕ) (q : Passes (length_checks (length bs) (length coefficients) (length word) (length scratch))) where
+  pub with_requires : Usable s × Lengths s coefficients word scratch
+  with_requires =
+      let r = ready m bs σ s g in
+      let (e, w, l) = lengths-passed (length coefficients) (2 ^ (length bs - 3)) (length word) (2 ^ length bs) (length scratch) (scratch_for (length bs)) q in (
+        usable (own_ready r),
+        record {
+          eighth = e ∙ ap (λ (i : ℕ). 2 ^ (i - 3)) (sym r.dimension);
+          whole = w ∙ ap (λ (i : ℕ). 2 ^ i) (sym r.dimension);
+          room = subst (λ (i : ℕ). scratch_for i ≤ length scratch) (sym r.dimension) l;
+        },
+      )
 
-  module _ (coefficients word scratch : List ℕ) (q : Passes (length_checks (length bs) (length coefficients) (length word) (length scratch))) where
-    pub with_requires : Usable s × Lengths s coefficients word scratch
-    with_requires =
-        let r = ready m bs σ s g in
-        let (e, w, l) = lengths-passed (length coefficients) (2 ^ (length bs - 3)) (length word) (2 ^ length bs) (length scratch) (scratch_for (length bs)) q in (
-          usable (own_ready r),
-          record {
-            eighth = e ∙ ap (λ (i : ℕ). 2 ^ (i - 3)) (sym r.dimension);
-            whole = w ∙ ap (λ (i : ℕ). 2 ^ i) (sym r.dimension);
-            room = subst (λ (i : ℕ). scratch_for i ≤ length scratch) (sym r.dimension) l;
-          },
-        )
+  module _ (new left : List ℕ) (z : left ≡ zeros (length scratch)) (r : Result (Unit {0}) Refusal) where
+    abbrev WordOf : List ℕ → Type 0
+    WordOf w = w ≡ word_at (symbols m) σ (length bs) bs coefficients
 
-    module _ (new left : List ℕ) (z : left ≡ zeros (length scratch)) (r : Result (Unit {0}) Refusal) where
-      abbrev WordOf : List ℕ → Type 0
-      WordOf w = w ≡ word_at (symbols m) σ (length bs) bs coefficients
+    encode_late : (r : Result (Unit {0}) Refusal) → EncodedWith (setting_of m bs σ) coefficients word new r → Late (symbol_checks m coefficients) WordOf word new r
+    unfolding setting_of
+    encode_late (Ok u) (b, w) = (inr ((λ f. f b), refl), w bs (own_setting m bs σ g.0))
+    encode_late (Err e) (h, b, w) = (omega (arith, ap number h), inl (b, ap number h), w)
 
-      encode_late : (r : Result (Unit {0}) Refusal) → EncodedWith setting coefficients word new r → Late (symbol_checks m coefficients) WordOf word new r
-      unfolding setting_of
-      encode_late (Ok u) (b, w) = (inr ((λ f. f b), refl), w bs own)
-      encode_late (Err e) (h, b, w) = (omega (arith, ap number h), inl (b, ap number h), w)
+    pub encode_told : EncodedWith s coefficients word new r → Encoded m bs σ coefficients word new scratch left r
+    encode_told e =
+        told_late m bs σ _ _ (symbol_checks m coefficients) s g q WordOf word new scratch left z r
+        (encode_late r (subst (λ (t : Setting). EncodedWith t coefficients word new r) g.1 e))
 
-      pub encode_told : EncodedWith s coefficients word new r → Encoded m bs σ coefficients word new scratch left r
-      encode_told e =
-          told_late m bs σ _ _ (symbol_checks m coefficients) s g q WordOf word new scratch left z r
-          (encode_late r (subst (λ (t : Setting). EncodedWith t coefficients word new r) g.1 e))
+    decode_late : (r : Result (Unit {0}) Refusal) → DecodedWith (setting_of m bs σ) word coefficients new r → Late (word_checks m bs σ word) (CoefficientsAt m bs σ word) coefficients new r
+    unfolding setting_of
+    decode_late (Ok u) (b, w) = let c = w bs (own_setting m bs σ g.0) in late_right m bs σ word (CoefficientsAt m bs σ word) coefficients new b (new, c.count, c.elements, c.word-is) c
+    decode_late (Err e) (inl (h, b, w)) = late_symbol m bs σ word (CoefficientsAt m bs σ word) coefficients new e h b w
+    decode_late (Err e) (inr (h, b, f, w)) = late_codeword m bs σ word (CoefficientsAt m bs σ word) coefficients new e h b (f bs (own_setting m bs σ g.0)) w
 
-      decode_late : (r : Result (Unit {0}) Refusal) → DecodedWith setting word coefficients new r → Late (word_checks m bs σ word) (CoefficientsAt m bs σ word) coefficients new r
-      unfolding setting_of
-      decode_late (Ok u) (b, w) = let c = w bs own in late_right m bs σ word (CoefficientsAt m bs σ word) coefficients new b (new, c.count, c.elements, c.word-is) c
-      decode_late (Err e) (inl (h, b, w)) = late_symbol m bs σ word (CoefficientsAt m bs σ word) coefficients new e h b w
-      decode_late (Err e) (inr (h, b, f, w)) = late_codeword m bs σ word (CoefficientsAt m bs σ word) coefficients new e h b (f bs own) w
-
-      pub decode_told : DecodedWith s word coefficients new r → Decoded m bs σ word coefficients new scratch left r
-      decode_told e =
-          told_late m bs σ _ _ (word_checks m bs σ word) s g q (CoefficientsAt m bs σ word) coefficients new scratch left z r
-          (decode_late r (subst (λ (t : Setting). DecodedWith t word coefficients new r) g.1 e))
+    pub decode_told : DecodedWith s word coefficients new r → Decoded m bs σ word coefficients new scratch left r
+    decode_told e =
+        told_late m bs σ _ _ (word_checks m bs σ word) s g q (CoefficientsAt m bs σ word) coefficients new scratch left z r
+        (decode_late r (subst (λ (t : Setting). DecodedWith t word coefficients new r) g.1 e))

@@ -5,7 +5,8 @@
 ghost use Rattle.std.specs.Prelude.{◌≡◌, length, ◌+◌};
 ghost use Rattle.stored.specs.File.{file_limit};
 
-use coins::{Counts, Distance};
+use coins::Counts;
+use refusals::Refusal;
 use stored::FILE_LIMIT;
 use streams::{STDERR_FILENO, STDIN_FILENO, STDOUT_FILENO};
 
@@ -24,24 +25,25 @@ fn line(label: &[u8], n: u64) -> bool {
 }
 
 // Whether the line of the word's distance is written.
-fn off(d: Distance) -> bool {
+fn off(d: Option<usize>) -> bool {
     match d {
-        Distance::Near(n) => line(b"off ", n as u64),
-        Distance::Far => io::write_all(STDOUT_FILENO, b"off far\n"),
+        Some(n) => line(b"off ", n as u64),
+        None => io::write_all(STDOUT_FILENO, b"off far\n"),
     }
 }
 
 // Whether all lines are written.
-fn show(c: Counts) -> bool {
-    if c.refusal != 0 {
-        return line(b"refused ", c.refusal as u64);
+fn show(counts: Result<Counts, Refusal>) -> bool {
+    match counts {
+        Ok(c) => {
+            line(b"k ", c.sweep.k as u64)
+                && line(b"coins ", c.sweep.coins)
+                && line(b"rejects ", c.sweep.rejects)
+                && line(b"reads-most ", c.sweep.most as u64)
+                && off(c.off)
+        }
+        Err(e) => line(b"refused ", u64::from(u8::from(e))),
     }
-    let d = c.off;
-    line(b"k ", c.k as u64)
-        && line(b"coins ", c.coins)
-        && line(b"rejects ", c.rejects)
-        && line(b"reads-most ", c.most as u64)
-        && off(d)
 }
 
 fn main() {

@@ -1,7 +1,9 @@
 -- What is delivered: the outcome is determined, and the stored file is accepted and gives back what it was made of. Assumes nothing.
-use Rattle.std.specs.Prelude.{◌≡◌, List, ◌++◌, ℕ, ◌≤◌, length, take, drop}
+use Rattle.std.specs.Prelude.{◌≡◌, Result, Ok, Err, List, ◌++◌, ℕ, ◌≤◌, length, take, drop}
 use Rattle.std.proofs.Common.{sym, ap, ap₂, ◌∙◌, subst, arith, take_at}
 use Rattle.lists.specs.Answers.{Checks, Passes, answers_one, not_refused}
+use Rattle.refusals.specs.Gives.{one_reason}
+use Rattle.refusals.specs.declared.Refusal.{Refusal}
 use Rattle.space.specs.Sound.{Sound}
 use Rattle.stored.specs.File.{file_of, file_end, form_in, modulus_in, degree_in, basis_in, shift_in}
 use Rattle.stored.specs.Passed.{length_basis}
@@ -13,8 +15,6 @@ use Rattle.prover.specs.Determined.{one-proof-at}
 use Rattle.delivery.specs.Steps.{delivery}
 use Rattle.delivery.specs.Message.{word_from, message_checks, Told}
 use Rattle.delivery.specs.MessageLaws.{message_carries, message_passed}
-use Rattle.delivery.specs.declared.Made.{Made}
-use Rattle.delivery.specs.declared.Made.TheVariants.{Written, Refused}
 
 module _ (t old : List ℕ) where
   abbrev checks : Checks
@@ -28,21 +28,21 @@ module _ (t old : List ℕ) where
   message_sound p = (message_passed t (length old) p).0.setting.sound
 
   -- the bytes written fit
-  pub written-fits : (new : List ℕ) (n : ℕ) → Told t old new (Written n) → n ≤ length old
+  pub written-fits : (new : List ℕ) (n : ℕ) → Told t old new (Ok n) → n ≤ length old
   written-fits new n (p, e, f) = omega (arith, (message_passed t (length old) p).1)
 
   -- two answers to one call are the same, and leave the same output
-  pub one-delivery : (new new' : List ℕ) (r r' : Made) → Told t old new r → Told t old new' r' → (r ≡ r') × (new ≡ new')
-  one-delivery new new' (Written n) (Written n') (p, e, (π, P, f)) (p', e', (ρ, R, f')) =
+  pub one-delivery : (new new' : List ℕ) (r r' : Result ℕ Refusal) → Told t old new r → Told t old new' r' → (r ≡ r') × (new ≡ new')
+  one-delivery new new' (Ok n) (Ok n') (p, e, (π, P, f)) (p', e', (ρ, R, f')) =
       let same : n ≡ n' = e ∙ sym e' in
       let one : π ≡ ρ = one-proof-at (message_sound p) (word_from t) π ρ P R in
-      (ap Written same, f ∙ ap₂ (λ (proof : List ℕ) (j : ℕ). file proof ++ drop j old) one same ∙ sym f')
-  one-delivery new new' (Written n) (Refused n') (p, e, f) (q, b) = absurd (not_refused checks p q)
-  one-delivery new new' (Refused n) (Written n') (q, b) (p, e, f) = absurd (not_refused checks p q)
-  one-delivery new new' (Refused n) (Refused n') (q, b) (q', b') = (ap Refused (answers_one checks q.1 q'.1), b ∙ sym b')
+      (ap Ok same, f ∙ ap₂ (λ (proof : List ℕ) (j : ℕ). file proof ++ drop j old) one same ∙ sym f')
+  one-delivery new new' (Ok n) (Err d) (p, e, f) (q, b) = absurd (not_refused checks p q)
+  one-delivery new new' (Err d) (Ok n') (q, b) (p, e, f) = absurd (not_refused checks p q)
+  one-delivery new new' (Err e) (Err e') (q, b) (q', b') = (ap Err (one_reason (answers_one checks q.1 q'.1)), b ∙ sym b')
 
   -- the bytes written are accepted by the reader of stored files, and give back form, modulus, basis, shift, word and proof
-  pub made_accepted : (new : List ℕ) (n : ℕ) → Told t old new (Written n)
+  pub made_accepted : (new : List ℕ) (n : ℕ) → Told t old new (Ok n)
       → (π : List ℕ) × ProofAt (modulus_in t) (basis_in t) (shift_in t) (word_from t) π × Passes (file_checks (take n new))
       × Gives (take n new) (form_in t) (modulus_in t) (basis_in t) (shift_in t) (word_from t) π
   made_accepted new n (p, e, (π, P, f)) = (

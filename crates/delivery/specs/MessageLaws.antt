@@ -1,12 +1,13 @@
 -- What a message that passes its checks holds, and the answers on the way. Assumes nothing.
-use Rattle.std.specs.Prelude.{◌≡◌, refl, ◌⊎◌, false, List, [], ◌∷◌, ℕ, ◌-◌, ◌^◌, ◌≤◌, ◌<◌, length}
+use Rattle.std.specs.Prelude.{◌≡◌, refl, ◌⊎◌, false, Result, Ok, Err, List, [], ◌∷◌, ℕ, ◌-◌, ◌^◌, ◌≤◌, ◌<◌, length}
 use Rattle.std.proofs.Common.{ap, ◌∙◌, sym, inl, inr, arith}
-use Rattle.lists.specs.Answers.{Checks, Answers, Passes, Refuses, Numbered, answers-after, refused_first, passes-each}
+use Rattle.lists.specs.Answers.{Checks, Answers, Passes, Numbered, answers-after, refused_first, passes-each}
+use Rattle.refusals.specs.declared.Refusal.{Refusal}
 use Rattle.field.specs.Binary.{degree}
 use Rattle.field.specs.Checks.{not-less}
 use Rattle.space.specs.Fits.{sound_fits}
+use Rattle.space.specs.Ready.{settled_first}
 use Rattle.space.specs.Setting.{SettledBy}
-use Rattle.space.specs.declared.Checked.{Checked}
 use Rattle.space.specs.declared.Setting.{Setting}
 use Rattle.stored.proofs.Accepted.{setting_numbered, setting-passed, setting_ready, setting_dimension}
 use Rattle.stored.specs.File.{Carries, layout_of, file_limit, form_in, modulus_in, degree_in, dim_in, basis_in, shift_at, shift_in, end_in}
@@ -102,27 +103,21 @@ module _ (t : List ℕ) (room : ℕ) where
         r.1,
       )
 
--- ---- the setting of a message, or the number that refuses it
+-- ---- the setting of a message, or the check that refuses it
 
-module _ (t : List ℕ) (room : ℕ) (c : Checked) where
-  abbrev Settled : Checks → Type 0
-  Settled cs = SettledBy cs (modulus_in t) (basis_in t) (shift_in t) c
+module _ (t : List ℕ) (room : ℕ) where
+  abbrev Settled : Checks → Result Setting Refusal → Type 0
+  Settled cs = SettledBy cs (modulus_in t) (basis_in t) (shift_in t)
 
-  pub setting_refused : Settled (setting_checks t) → (c.refusal ≡ 0 → ⊥) → Settled (message_checks t room)
-  setting_refused (inl (p, z, e)) n = absurd (n z)
-  setting_refused (inr ((h, a), e)) n = inr ((h, refused_first (setting_checks t) (rest_checks t room) c.refusal h a), e)
+  pub setting_refused : (e : Refusal) → Settled (setting_checks t) (Err e) → Settled (message_checks t room) (Err e)
+  setting_refused = settled_first (setting_checks t) (rest_checks t room) (modulus_in t) (basis_in t) (shift_in t)
 
-  pub message_refuses : Settled (message_checks t room) → (c.refusal ≡ 0 → ⊥) → Refuses (message_checks t room) c.refusal
-  message_refuses (inl (p, z, e)) n = absurd (n z)
-  message_refuses (inr (a, e)) n = a
-
-  pub message_read : Settled (message_checks t room) → c.refusal ≡ 0 → Passes (message_checks t room) × SettingRead t c.setting
-  message_read (inl (p, z, e)) h = (p, ((passes-each (setting_checks t) (rest_checks t room) (setting_numbered t) p).0, e))
-  message_read (inr ((g, a), e)) h = absurd (omega arith)
+  pub message_read : (s : Setting) → Settled (message_checks t room) (Ok s) → Passes (message_checks t room) × SettingRead t s
+  message_read s (p, e) = (p, ((passes-each (setting_checks t) (rest_checks t room) (setting_numbered t) p).0, e))
 
 -- where the stored file ends, by the layout of the setting that was read
 pub layout-end : (t : List ℕ) (s : Setting) (form : Form) (p : Layout) → SettingRead t s → form ≡ form_in t → p ≡ layout_of form (degree s.field.modulus) s.space.k → p.end ≡ end_in t
-layout-end t s form p r g e =
+layout-end t s _ p r g e =
     ap (λ (x : Layout). x.end) (e ∙ λ i. layout_of (g i) (degree ((setting_ready t s r).modulus i)) (setting_dimension t s r i))
 
 -- ---- the coefficients of a message that passes

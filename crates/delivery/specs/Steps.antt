@@ -1,9 +1,10 @@
 -- Past the checks of a message no call on the way is refused: encoder, prover and writer do what they say. Assumes nothing.
-use Rattle.std.specs.Prelude.{◌≡◌, refl, ◌⊎◌, List, ◌++◌, ℕ, ◌-◌, ◌^◌, ◌≤◌, length}
-use Rattle.std.proofs.Common.{ap, ◌∙◌, inl, inr}
+use Rattle.std.specs.Prelude.{◌≡◌, refl, ◌⊎◌, Result, Ok, Err, List, ◌++◌, ℕ, ◌-◌, ◌^◌, ◌≤◌, length}
+use Rattle.std.proofs.Common.{ap, ◌∙◌, inl, inr, arith}
 use Rattle.lists.specs.All.{All}
-use Rattle.lists.specs.Answers.{Passes, not_refused, answers-after}
+use Rattle.lists.specs.Answers.{Checks, Passes, not_refused, answers-after, numbered_append}
 use Rattle.lists.specs.Lengths.{lengths-right}
+use Rattle.refusals.specs.declared.Refusal.{Refusal}
 use Rattle.field.specs.Binary.{degree}
 use Rattle.field.specs.Symbols.{symbols}
 use Rattle.poly.specs.Shift.{word_at, CodewordAt, shift_p}
@@ -16,8 +17,6 @@ use Rattle.codec.specs.Calls.{symbol_checks, word_checks, encode_checks, Encoded
 use Rattle.codec.specs.Checks.{early_checks, early_numbered}
 use Rattle.codec.specs.RoundTrip.{word-passes, length_word}
 use Rattle.codec.specs.Scratch.{scratch_for}
-use Rattle.codec.specs.declared.Outcome.{Outcome}
-use Rattle.codec.specs.declared.Outcome.TheVariants.{Done, Refused}
 use Rattle.prover.specs.Calls.{prove_checks, ProofAt, Proven}
 use Rattle.prover.specs.Determined.{proof_shift}
 use Rattle.stored.specs.File.{file_of, file_end}
@@ -33,7 +32,7 @@ module _ (m : ℕ) (bs : List ℕ) (σ : ℕ) (s : Sound m bs σ) where
 
   -- ---- the encoder
 
-  pub encoded : (xs old new scratch left : List ℕ) (r : Outcome) → Coefficients m bs xs → length old ≡ 2 ^ k → scratch_for k ≤ length scratch
+  pub encoded : (xs old new scratch left : List ℕ) (r : Result (Unit {0}) Refusal) → Coefficients m bs xs → length old ≡ 2 ^ k → scratch_for k ≤ length scratch
       → Encoded m bs σ xs old new scratch left r → new ≡ word_at (symbols m) σ k bs xs
   encoded xs old new scratch left r c lo ls = by r
     where
@@ -44,27 +43,30 @@ module _ (m : ℕ) (bs : List ℕ) (σ : ℕ) (s : Sound m bs σ) where
           (lengths-right (length xs) (2 ^ (k - 3)) (length old) (2 ^ k) (length scratch) (scratch_for k) c.count lo ls))
           (inr ((λ f. f c.symbols), refl))
 
-      by : (r : Outcome) → Encoded m bs σ xs old new scratch left r → new ≡ word_at (symbols m) σ k bs xs
-      by Done e = e.right
-      by (Refused n) e = absurd (not_refused (encode_checks m bs σ xs (length old) (length scratch)) fine e.refuses)
+      by : (r : Result (Unit {0}) Refusal) → Encoded m bs σ xs old new scratch left r → new ≡ word_at (symbols m) σ k bs xs
+      by (Ok u) e = e.right
+      by (Err d) e = absurd (not_refused (encode_checks m bs σ xs (length old) (length scratch)) fine e.refuses)
 
   -- ---- the prover
 
-  pub proven : (w old new scratch left : List ℕ) (r : Outcome) → CodewordAt (symbols m) σ k bs w → length old ≡ S k → scratch_for k ≤ length scratch
+  pub proven : (w old new scratch left : List ℕ) (r : Result (Unit {0}) Refusal) → CodewordAt (symbols m) σ k bs w → length old ≡ S k → scratch_for k ≤ length scratch
       → Proven m bs σ w old new scratch left r → ProofAt m bs σ w new
   proven w old new scratch left r (P, lp, sp, e) lo ls = by r
     where
+      lengths : Checks
+      lengths = Rattle.prover.specs.Calls.length_checks k (length w) (length old) (length scratch)
+
       fine : Passes (prove_checks m bs σ w (length old) (length scratch))
       fine =
-          answers-after (setting_checks m bs σ ++ Rattle.prover.specs.Calls.length_checks k (length w) (length old) (length scratch)) (word_checks m bs σ w) 0
-          (Rattle.prover.proofs.CallLaws.early_numbered m bs σ (length w) (length old) (length scratch))
-          (answers-after (setting_checks m bs σ) (Rattle.prover.specs.Calls.length_checks k (length w) (length old) (length scratch)) 0 (setting_numbered m bs σ) (sound_passes m bs σ s)
+          answers-after (setting_checks m bs σ ++ lengths) (word_checks m bs σ w) 0
+          (numbered_append (setting_checks m bs σ) lengths (setting_numbered m bs σ) (omega arith, (omega arith, tt)))
+          (answers-after (setting_checks m bs σ) lengths 0 (setting_numbered m bs σ) (sound_passes m bs σ s)
           (lengths-right (length w) (2 ^ k) (length old) (S k) (length scratch) (scratch_for k) (length_word m bs σ s P w e) lo ls))
           (word-passes m bs σ s P w lp sp e)
 
-      by : (r : Outcome) → Proven m bs σ w old new scratch left r → ProofAt m bs σ w new
-      by Done t = t.right
-      by (Refused n) t = absurd (not_refused (prove_checks m bs σ w (length old) (length scratch)) fine t.refuses)
+      by : (r : Result (Unit {0}) Refusal) → Proven m bs σ w old new scratch left r → ProofAt m bs σ w new
+      by (Ok u) t = t.right
+      by (Err d) t = absurd (not_refused (prove_checks m bs σ w (length old) (length scratch)) fine t.refuses)
 
   -- ---- the writer
 
@@ -84,7 +86,7 @@ module _ (m : ℕ) (bs : List ℕ) (σ : ℕ) (s : Sound m bs σ) where
           all-symbols (symbols m).Sym (dim k) w π lw lπ
           (λ coin h. ((all_coins_read (sound_field s) (dim k) bs w π s.basis lw lπ).1 ((proof_shift s w π).0 (P, H)) coin h).0)
 
-  pub written : (form : Form) (w π old new : List ℕ) (r : Rattle.filing.specs.declared.Outcome.Outcome) → ProofAt m bs σ w π → length old ≡ file_end form (degree m) k
+  pub written : (form : Form) (w π old new : List ℕ) (r : Result (Unit {0}) Refusal) → ProofAt m bs σ w π → length old ≡ file_end form (degree m) k
       → Wrote form m bs σ w π old new r → new ≡ file_of form m bs σ w π
   written form w π old new r p lo = by r
     where
@@ -99,6 +101,6 @@ module _ (m : ℕ) (bs : List ℕ) (σ : ℕ) (s : Sound m bs σ) where
       fine : Passes (writer_checks form m bs σ w π (length old))
       fine = range_answer form m bs σ w π (length old) (sound_passes m bs σ s) (inr (right, refl)) 0 (inr ((λ f. f (d.word-symbols, d.proof-symbols)), refl))
 
-      by : (r : Rattle.filing.specs.declared.Outcome.Outcome) → Wrote form m bs σ w π old new r → new ≡ file_of form m bs σ w π
-      by Rattle.filing.specs.declared.Outcome.TheVariants.Written t = t.1
-      by (Rattle.filing.specs.declared.Outcome.TheVariants.Refused n) t = absurd (not_refused (writer_checks form m bs σ w π (length old)) fine t.0)
+      by : (r : Result (Unit {0}) Refusal) → Wrote form m bs σ w π old new r → new ≡ file_of form m bs σ w π
+      by (Ok u) t = t.1
+      by (Err e) t = absurd (not_refused (writer_checks form m bs σ w π (length old)) fine t.0)

@@ -1,4 +1,5 @@
-// The word, the proof and the stored file, of a message that passed its checks.
+// The word, the proof and the stored file, of a message that passed its checks. None of the three
+// calls is refused then, so that their answers are dropped.
 ghost use Rattle.std.specs.Prelude.{◌≡◌, false, ◌+◌, ◌*◌, ◌-◌, ◌^◌, ◌≤◌, length, take};
 ghost use Rattle.field.specs.Binary.{degree};
 ghost use Rattle.field.specs.Symbols.{symbols};
@@ -47,7 +48,7 @@ fn word_of(modulus: u32, basis: &[u16], shift: u16, coefficients: &[u16]) -> [u1
     let n = power(basis.len());
     let mut word = small::no_word();
     let mut scratch = no_scratch();
-    codec::encode(
+    let _ = codec::encode(
         modulus,
         basis,
         shift,
@@ -66,7 +67,7 @@ fn proof_of(modulus: u32, basis: &[u16], shift: u16, word: &[u16]) -> [u16; SMAL
     let s = tables::proof_length(basis.len());
     let mut proof = small::no_proof();
     let mut scratch = no_scratch();
-    prover::prove(modulus, basis, shift, word, &mut proof[..s], &mut scratch);
+    let _ = prover::prove(modulus, basis, shift, word, &mut proof[..s], &mut scratch);
     proof
 }
 
@@ -87,7 +88,7 @@ fn write_coefficients(
     let s = tables::proof_length(k);
     let word = word_of(modulus, basis, shift, coefficients);
     let proof = proof_of(modulus, basis, shift, &word[..n]);
-    filing::writer::write_form(form, modulus, basis, shift, &word[..n], &proof[..s], out);
+    let _ = filing::writer::write_form(form, modulus, basis, shift, &word[..n], &proof[..s], out);
 }
 
 // The stored file of a message that passed its checks, in the message's form.

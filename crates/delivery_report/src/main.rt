@@ -6,6 +6,7 @@
 ghost use Rattle.std.specs.Prelude.{◌≡◌, length};
 ghost use Rattle.stored.specs.File.{file_limit};
 
+use refusals::Refusal;
 use report::{Entry, Total};
 use stored::FILE_LIMIT;
 use streams::{STDERR_FILENO, STDIN_FILENO, STDOUT_FILENO};
@@ -22,18 +23,22 @@ fn pair(word: &[u8], n: u64) -> bool {
 }
 
 // Whether the line of a file is written.
-fn show(place: u64, e: Entry) -> bool {
-    if e.refusal != 0 {
-        return pair(b"refused ", place)
-            && pair(b" ", e.refusal as u64)
-            && io::write_all(STDOUT_FILENO, b"\n");
+fn show(place: u64, file: Result<Entry, Refusal>) -> bool {
+    match file {
+        Ok(e) => {
+            pair(b"", place)
+                && pair(b" ", e.sweep.k as u64)
+                && pair(b" ", e.sweep.coins)
+                && pair(b" ", e.sweep.rejects)
+                && pair(b" ", e.sweep.most as u64)
+                && io::write_all(STDOUT_FILENO, b"\n")
+        }
+        Err(e) => {
+            pair(b"refused ", place)
+                && pair(b" ", u64::from(u8::from(e)))
+                && io::write_all(STDOUT_FILENO, b"\n")
+        }
     }
-    pair(b"", place)
-        && pair(b" ", e.k as u64)
-        && pair(b" ", e.coins)
-        && pair(b" ", e.rejects)
-        && pair(b" ", e.most as u64)
-        && io::write_all(STDOUT_FILENO, b"\n")
 }
 
 // Whether the last line is written.
@@ -55,13 +60,17 @@ fn run() -> bool {
             break;
         }
         report = report::next(report, &bytes[..n]);
-        let latest = report.latest;
+        let Some(latest) = report.latest else {
+            break;
+        };
         if !show(report.read, latest) {
             return false;
         }
-        let end = latest.end;
-        report::window::slide(&mut bytes, end, n);
-        n -= end;
+        let Ok(e) = latest else {
+            break;
+        };
+        report::window::slide(&mut bytes, e.end, n);
+        n -= e.end;
     }
     show_total(report.total)
 }

@@ -21,8 +21,9 @@ fn irreducible(m: u32) -> bool
         return false;
     }
     let end: u32 = 2 << (degree_of(m) / 2);
-    for d in (3..end).step_by(2) {
-        let t = divide(m, d);
+    // The odd numbers from 3 on. Compiled, `step_by` took a third longer.
+    for i in 1..end / 2 {
+        let t = divide(m, 2 * i + 1);
         if t.remainder == 0 {
             return false;
         }

@@ -25,9 +25,7 @@ fn times(modulus: u32, l: u32, x: u16, y: u16) -> u16
     let m = ((modulus << s) % 65536) as u16;
     let z = x << s;
     let mut acc: u16 = 0;
-    let mut i: u32 = 16;
-    while 0 < i {
-        i -= 1;
+    for i in (0..16u32).rev() {
         acc = twice(m, acc) ^ (((y >> i) % 2) * z);
     }
     acc >> s
@@ -41,10 +39,8 @@ pub fn add_products(f: Field, t: &[u16], c: u16, from: usize, to: usize, values:
 {
     let m = f.modulus;
     let l = f.degree;
-    let mut i = 0;
-    while i < t.len() {
-        values[to + i] ^= times(m, l, t[i] ^ c, values[from + i]);
-        i += 1;
+    for (i, x) in t.iter().enumerate() {
+        values[to + i] ^= times(m, l, *x ^ c, values[from + i]);
     }
 }
 

@@ -2,7 +2,7 @@
 use Rattle.std.specs.Prelude.{◌≡◌, refl, List, [], ◌∷◌, ℕ, ◌≤◌, ◌<◌, length}
 use Rattle.std.proofs.Common.{sym, ap, ◌∙◌, inl, inr, arith, pow_pos}
 use Rattle.lists.specs.All.{Below}
-use Rattle.lists.specs.Answers.{Checks, Answers, Passes, Refuses, Numbered, answers-after, refused_first, passes-each, numbered_append}
+use Rattle.lists.specs.Answers.{Checks, Answers, Passes, Numbered, answers-after, refused_first, passes-each, numbered_append}
 use Rattle.lists.specs.Decides.{equal_stable}
 use Rattle.field.specs.Binary.{degree}
 use Rattle.space.specs.Fits.{sound_fits}
@@ -16,8 +16,7 @@ use Rattle.stored.proofs.Whole.{accepted_delivery, accepted_file}
 use Rattle.stored.proofs.Written.{length_file, file_accepted, file_gives}
 use Rattle.stored.specs.declared.Form.{Form}
 use Rattle.stored.specs.declared.Form.TheVariants.{One, Two}
-use Rattle.filing.specs.Convert.{other, converted, converted_end, shift_checks, convert_checks, length_of, LengthTold}
-use Rattle.filing.specs.declared.ConvertedLength.{ConvertedLength}
+use Rattle.filing.specs.Convert.{other, converted, converted_end, shift_checks, convert_checks}
 
 -- a file that is accepted and gives a form, a setting, a word and a proof is the byte string of them
 pub one-file : {f : List ℕ} {form : Form} {m : ℕ} {bs : List ℕ} {σ : ℕ} {w π : List ℕ} → Below 256 f → Passes (file_checks f) → Gives f form m bs σ w π → f ≡ file_of form m bs σ w π
@@ -117,15 +116,3 @@ module _ (f : List ℕ) where
         go : Passes (shift_checks f) × Passes six → Passes (file_checks f) × (shift_in f ≡ 0) × (out ≡ converted_end f)
         go (q, inl a) = absurd (omega arith)
         go (q, inr (a, z)) = let s = shift_passed q in (s.0, s.1, equal_stable out (converted_end f) a)
-
--- ---- what the length call told
-
-pub length_refuses : (f : List ℕ) (r : ConvertedLength) → LengthTold f r → (r.refusal ≡ 0 → ⊥) → Refuses (shift_checks f) r.refusal
-unfolding length_of
-length_refuses f r (inl (p, e)) n = absurd (n (ap (λ (x : ConvertedLength). x.refusal) e))
-length_refuses f r (inr (a, e)) n = a
-
-pub length_told : (f : List ℕ) (r : ConvertedLength) → LengthTold f r → r.refusal ≡ 0 → Passes (shift_checks f) × (r.length ≡ converted_end f)
-unfolding length_of
-length_told f r (inl (p, e)) z = (p, ap (λ (x : ConvertedLength). x.length) e)
-length_told f r (inr ((h, a), e)) z = absurd (omega arith)

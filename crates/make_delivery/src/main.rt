@@ -7,7 +7,7 @@
 ghost use Rattle.std.specs.Prelude.{◌≡◌, length};
 ghost use Rattle.stored.specs.File.{file_limit};
 
-use delivery::Made;
+use refusals::Refusal;
 use stored::FILE_LIMIT;
 use streams::{STDERR_FILENO, STDIN_FILENO, STDOUT_FILENO};
 
@@ -23,17 +23,17 @@ fn written(file: &[u8]) {
     }
 }
 
-fn refused(number: u8) {
+fn refused(e: Refusal) {
     io::write_all(STDERR_FILENO, b"refused ");
-    io::print_decimal(STDERR_FILENO, number as u64);
+    io::print_decimal(STDERR_FILENO, u8::from(e) as u64);
     io::write_all(STDERR_FILENO, b"\n");
 }
 
 fn deliver(message: &[u8]) {
     let mut out = room();
     match delivery::make(message, &mut out) {
-        Made::Written(n) => written(&out[..n]),
-        Made::Refused(number) => refused(number),
+        Ok(n) => written(&out[..n]),
+        Err(e) => refused(e),
     }
 }
 

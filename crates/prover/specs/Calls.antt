@@ -1,10 +1,12 @@
 -- The call of the prover: the order of its checks, and what it leaves.
-use Rattle.std.specs.Prelude.{◌≡◌, ◌⊎◌, ◌≢◌, List, [], ◌∷◌, ◌++◌, ℕ, ◌^◌, ◌≤◌, ◌<◌, length}
+use Rattle.std.specs.Prelude.{◌≡◌, ◌⊎◌, ◌≢◌, List, [], ◌∷◌, ◌++◌, ℕ, ◌^◌, ◌≤◌, ◌<◌, length, Result, Ok, Err}
 use Rattle.lists.specs.All.{Below}
 use Rattle.lists.specs.Answers.{Checks}
 use Rattle.field.specs.Binary.{degree}
 use Rattle.field.specs.Symbols.{symbols}
 use Rattle.poly.specs.Codeword.{Codeword}
+use Rattle.refusals.specs.declared.Refusal.{Refusal}
+use Rattle.refusals.specs.declared.Refusal.TheVariants.{NoSymbol, NoCodeword}
 use Rattle.space.specs.Ready.{Ready}
 use Rattle.space.specs.Setting.{setting_checks}
 use Rattle.space.specs.declared.Setting.{Setting}
@@ -12,7 +14,6 @@ use Rattle.proximity.specs.Dim.{dim, S}
 use Rattle.proximity.specs.Proof.{Honest}
 use Rattle.proximity.specs.Shifted.{HonestAt}
 use Rattle.codec.specs.Calls.{word_checks, Told}
-use Rattle.codec.specs.declared.Outcome.{Outcome}
 use Rattle.codec.specs.Scratch.{scratch_for}
 
 -- checks 6 and 7 at dimension k, of the lengths of the word, the proof and the scratch
@@ -28,7 +29,7 @@ abbrev pub ProofAt : ℕ → List ℕ → ℕ → List ℕ → List ℕ → Type
 ProofAt m bs σ word π = (P : List ℕ) × HonestAt (symbols m) σ (dim (length bs)) bs word π P
 
 -- the proof of the word at the shift
-abbrev pub Proven : ℕ → List ℕ → ℕ → List ℕ → List ℕ → List ℕ → List ℕ → List ℕ → Outcome → Type 0
+abbrev pub Proven : ℕ → List ℕ → ℕ → List ℕ → List ℕ → List ℕ → List ℕ → List ℕ → Result (Unit {0}) Refusal → Type 0
 Proven m bs σ word old new scratch left = Told (prove_checks m bs σ word (length old) (length scratch)) (ProofAt m bs σ word) old new scratch left
 
 -- ---- past check 7: the word has the same proof at each shift, so that none is seen here
@@ -45,10 +46,11 @@ pub record InSetting (s : Setting) (word proof scratch : List ℕ) : Type 0 wher
   pub size : length proof ≡ S s.space.k
   pub room : scratch_for s.space.k ≤ length scratch
 
--- the proof of the word; or 9 or 10, and the proof as it came
-abbrev pub ProvenWith : Setting → List ℕ → List ℕ → List ℕ → ℕ → Type 0
-ProvenWith s word old new r =
-    ((r ≡ 0) × Below (2 ^ degree s.field.modulus) word × ((bs : List ℕ) → Ready s.field.modulus bs s → ProofOf s.field.modulus bs word new))
-    ⊎ (((r ≡ 9) × (Below (2 ^ degree s.field.modulus) word → ⊥) × (new ≡ old))
-    ⊎ ((r ≡ 10) × Below (2 ^ degree s.field.modulus) word
-    × ((bs : List ℕ) → Ready s.field.modulus bs s → Codeword (symbols s.field.modulus) (length bs) bs word → ⊥) × (new ≡ old)))
+-- the proof of the word; or no symbols or no codeword, and the proof as it came
+abbrev pub ProvenWith : Setting → List ℕ → List ℕ → List ℕ → Result (Unit {0}) Refusal → Type 0
+ProvenWith s word old new (Ok u) =
+    Below (2 ^ degree s.field.modulus) word × ((bs : List ℕ) → Ready s.field.modulus bs s → ProofOf s.field.modulus bs word new)
+ProvenWith s word old new (Err e) =
+    ((e ≡ NoSymbol) × (Below (2 ^ degree s.field.modulus) word → ⊥) × (new ≡ old))
+    ⊎ ((e ≡ NoCodeword) × Below (2 ^ degree s.field.modulus) word
+    × ((bs : List ℕ) → Ready s.field.modulus bs s → Codeword (symbols s.field.modulus) (length bs) bs word → ⊥) × (new ≡ old))

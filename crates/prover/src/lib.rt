@@ -4,49 +4,42 @@
 
 mod write;
 
-ghost use Rattle.std.specs.Prelude.{◌≡◌, ◌≤◌};
+ghost use Rattle.std.specs.Prelude.{◌≤◌};
 ghost use Rattle.lists.specs.Answers.{Answers};
-ghost use Rattle.space.specs.Early.{EarlyOf};
+ghost use Rattle.refusals.specs.Refusal.{answer_of};
 ghost use Rattle.prover.specs.Calls.{length_checks, Proven, InSetting, ProvenWith};
 ghost use Rattle.space.specs.Sizes.{max_dim};
 
-use codec::{Outcome, finish};
 use field::modulus::all_symbols;
 use proximity::tables;
+use refusals::Refusal;
 use space::Setting;
 use transform::blocks::is_codeword;
+use transform::slices::clear;
 
 // Checks 6 and 7 of lengths, at dimension k.
-fn length_refusal(k: usize, word: usize, proof: usize, scratch: usize) -> u8
+#[tactic(auto, using(rows::proofs::Passes::power))]
+fn check_lengths(k: usize, word: usize, proof: usize, scratch: usize) -> Result<(), Refusal>
     requires { (3 ≤ k) × (k ≤ max_dim) }
-    ensures { Answers (length_checks k word proof scratch) result }
+    ensures { Answers (length_checks k word proof scratch) (answer_of result) }
 {
     let n = 1usize << k;
-    if word != n {
-        return 6;
-    }
-    if proof != tables::proof_length(k) {
-        return 6;
+    if word != n || proof != tables::proof_length(k) {
+        return Err(Refusal::Length);
     }
     if scratch < codec::SCRATCH * n {
-        return 7;
+        return Err(Refusal::ScratchShort);
     }
-    0
-}
-
-// Checks 1 to 7, from the number that checks 1 to 5 give.
-fn early_refusal(refusal: u8, k: usize, word: usize, proof: usize, scratch: usize) -> u8
-    requires { refusal ≡ 0 → (3 ≤ k) × (k ≤ max_dim) }
-    ensures { EarlyOf (length_checks k word proof scratch) refusal result }
-{
-    if refusal == 0 {
-        return length_refusal(k, word, proof, scratch);
-    }
-    refusal
+    Ok(())
 }
 
 // Checks 9 and 10, then the proof.
-fn prove_with(s: Setting, word: &[u16], proof: &mut [u16], scratch: &mut [u16]) -> u8
+fn prove_with(
+    s: Setting,
+    word: &[u16],
+    proof: &mut [u16],
+    scratch: &mut [u16],
+) -> Result<(), Refusal>
     requires { InSetting s word.now proof.old scratch.old }
     ensures { ProvenWith s word.now proof.old proof.new result }
 {
@@ -54,14 +47,14 @@ fn prove_with(s: Setting, word: &[u16], proof: &mut [u16], scratch: &mut [u16]) 
     let k = s.space.k;
     let images = s.space.images;
     let n = word.len();
-    if all_symbols(f, word) {
-        if is_codeword(f, &images, k, word, &mut scratch[..n]) {
-            write::prove_in(f, k, &images, word, proof, scratch);
-            return 0;
-        }
-        return 10;
+    if !all_symbols(f, word) {
+        return Err(Refusal::NoSymbol);
     }
-    9
+    if !is_codeword(f, &images, k, word, &mut scratch[..n]) {
+        return Err(Refusal::NoCodeword);
+    }
+    write::prove_in(f, k, &images, word, proof, scratch);
+    Ok(())
 }
 
 // The proof of a codeword: of P(x + shift), where the word holds P at the shift plus element i. Past
@@ -76,15 +69,12 @@ pub fn prove(
     word: &[u16],
     proof: &mut [u16],
     scratch: &mut [u16],
-) -> Outcome
+) -> Result<(), Refusal>
     ensures { Proven modulus basis.now shift word.now proof.old proof.new scratch.old scratch.new result }
 {
-    let checked = space::check(modulus, basis, shift);
-    let first = checked.refusal;
-    let s = checked.setting;
-    let refusal = early_refusal(first, basis.len(), word.len(), proof.len(), scratch.len());
-    if refusal == 0 {
-        return finish(prove_with(s, word, proof, scratch), scratch);
-    }
-    Outcome::Refused(refusal)
+    let s = space::check(modulus, basis, shift)?;
+    check_lengths(basis.len(), word.len(), proof.len(), scratch.len())?;
+    let done = prove_with(s, word, proof, scratch);
+    clear(scratch);
+    done
 }

@@ -1,5 +1,5 @@
 -- What passes the checks of an entry is a stored file; the entry of the window is that of all that is left. Assumes nothing.
-use Rattle.std.specs.Prelude.{◌≡◌, refl, ◌↔◌, List, [], ◌∷◌, ◌++◌, ℕ, ◌≤◌, ◌<◌, length, take}
+use Rattle.std.specs.Prelude.{◌≡◌, refl, ◌↔◌, Result, Ok, Err, List, [], ◌∷◌, ◌++◌, ℕ, ◌≤◌, ◌<◌, length, take}
 use Rattle.std.proofs.Math.Path.{sym, ap, subst}
 use Rattle.std.proofs.Common.{◌∙◌, inl, arith, take-take, length-take-le}
 use Rattle.std.proofs.Math.Logic.{inr}
@@ -13,9 +13,11 @@ use Rattle.stored.specs.Passed.{basis-first, record_size}
 use Rattle.stored.specs.Reader.{setting_checks, symbol_checks, prefix_checks, file_checks, read_of}
 use Rattle.stored.specs.declared.Reading.{Reading}
 use Rattle.space.specs.Sizes.{max_dim}
+use Rattle.refusals.specs.Refusal.{number}
+use Rattle.refusals.specs.declared.Refusal.{Refusal}
 use Rattle.coins.specs.Tally.{Readable}
 use Rattle.coins.specs.Totals.{Swept, count_checks}
-use Rattle.report.specs.Entry.{size_checks, entry_checks, file_in, no_entry, Told}
+use Rattle.report.specs.Entry.{size_checks, entry_checks, file_in, Told}
 use Rattle.report.specs.Prefix.{dimension, same_end, setting_alike, symbol_alike, read_alike}
 use Rattle.report.specs.Window.{window_on}
 use Rattle.report.specs.declared.Entry.{Entry}
@@ -35,13 +37,6 @@ module _ (s : List ℕ) where
 
   abbrev records : Checks
   records = symbol_checks (form_in s) s (dim_in s) (degree_in s)
-
-  module _ (e : Entry) where
-    pub told-number : (n : ℕ) → (n ≡ 0 → ⊥) → Answers (entry_checks s) n → e ≡ no_entry n → Told s e
-    unfolding no_entry
-    told-number n h a g =
-        let same : e.refusal ≡ n = ap (λ (x : Entry). x.refusal) g in
-        inr ((omega (arith, h), subst (Answers (entry_checks s)) (sym same) a), g ∙ ap no_entry (sym same))
 
   pub setting_refused : (n : ℕ) → 0 < n → Answers (setting_checks s) n → Answers (entry_checks s) n
   setting_refused n h a = refused_first (setting_checks s) (size_checks size ++ records) n h a
@@ -101,8 +96,7 @@ module _ (s : List ℕ) where
 
     -- what the reader hands back of the records is what it hands back of the file
     pub entry_readable : (r : Reading) → r ≡ read_of s → Readable file r
-    unfolding read_of
-    entry_readable r e = (inl (entry-file, e ∙ sym (read_alike size s long inside)), ap (λ (x : Reading). x.refusal) e)
+    entry_readable r e = (entry-file, e ∙ sym (read_alike size s long inside))
 
 -- ---- the window
 
@@ -125,21 +119,18 @@ module _ (s : List ℕ) where
   same-file h = ap (λ (m : ℕ). take m w) window_end ∙ take-take (end_in s) file_limit s h
 
 -- The entry of the window is the entry of all that is left of the stream.
-pub window_told : (s : List ℕ) (e : Entry) → Told (window_on s) e ↔ Told s e
-window_told s e = (to, from)
+pub window_told : (s : List ℕ) (r : Result Entry Refusal) → Told (window_on s) r ↔ Told s r
+window_told s r = (to r, from r)
   where
-    to : Told (window_on s) e → Told s e
-    to (inl (p, z, t, g)) =
+    to : (r : Result Entry Refusal) → Told (window_on s) r → Told s r
+    to (Ok e) (p, (t, g)) =
         let q = alike_answers (entry_checks (window_on s)) (entry_checks s) (window_checks s) 0 p in
-        inl (q, z, subst (λ (f : List ℕ). Swept f e.k e.coins e.rejects e.most) (same-file s (entry_limit s q)) t, g ∙ window_end s)
-    to (inr ((h, a), g)) = inr ((h, alike_answers (entry_checks (window_on s)) (entry_checks s) (window_checks s) e.refusal a), g)
+        (q, (subst (λ (f : List ℕ). Swept f e.sweep.k e.sweep.coins e.sweep.rejects e.sweep.most) (same-file s (entry_limit s q)) t, g ∙ window_end s))
+    to (Err d) (h, a) = (h, alike_answers (entry_checks (window_on s)) (entry_checks s) (window_checks s) (number d) a)
 
-    from : Told s e → Told (window_on s) e
-    from (inl (p, z, t, g)) =
-        inl (
-          alike_back (entry_checks (window_on s)) (entry_checks s) (window_checks s) 0 p,
-          z,
-          subst (λ (f : List ℕ). Swept f e.k e.coins e.rejects e.most) (sym (same-file s (entry_limit s p))) t,
-          g ∙ sym (window_end s),
-        )
-    from (inr ((h, a), g)) = inr ((h, alike_back (entry_checks (window_on s)) (entry_checks s) (window_checks s) e.refusal a), g)
+    from : (r : Result Entry Refusal) → Told s r → Told (window_on s) r
+    from (Ok e) (p, (t, g)) = (
+      alike_back (entry_checks (window_on s)) (entry_checks s) (window_checks s) 0 p,
+      (subst (λ (f : List ℕ). Swept f e.sweep.k e.sweep.coins e.sweep.rejects e.sweep.most) (sym (same-file s (entry_limit s p))) t, g ∙ sym (window_end s)),
+    )
+    from (Err d) (h, a) = (h, alike_back (entry_checks (window_on s)) (entry_checks s) (window_checks s) (number d) a)

@@ -5,7 +5,6 @@ pub mod Report
 pub mod Window
 pub mod Prefix
 pub mod EntryLaws
-pub mod TotalLaws
 pub mod Bounds
 pub mod Following
 pub mod OneReport

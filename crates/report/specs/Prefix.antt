@@ -133,7 +133,6 @@ module _ (n : ℕ) (s : List ℕ) where
           let b = basis in
           let σ = shift in
           λ i. record {
-            refusal = 0;
             form = g i;
             setting = setting_of (m i) (b i) (σ i);
             narrow = narrow_of (g i) (degree (m i));

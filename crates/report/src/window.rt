@@ -7,9 +7,5 @@ pub fn slide(window: &mut [u8], by: usize, end: usize)
     requires { (by ≤ end) × (end ≤ length window.old) }
     ensures { Slid by end window.old window.new }
 {
-    let mut i = by;
-    while i < end {
-        window[i - by] = window[i];
-        i += 1;
-    }
+    window.copy_within(by..end, 0);
 }

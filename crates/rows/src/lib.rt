@@ -38,10 +38,8 @@ fn last_lanes(images: &[u16; CELLS], k: usize) -> [u16; LANE_CELLS]
     let rows = lines::rows(k);
     let x = spaces::element_images(images, h + 2, 1, 1);
     let mut last = spans::span_lanes(images, h, k - h, h);
-    let mut r = 0;
-    while r < 4 {
+    for r in 0..4 {
         slices::to_lane(&x[..h], rows, r, &mut last);
-        r += 1;
     }
     last
 }
@@ -114,12 +112,10 @@ fn store_rows(k: usize, j: usize, values: &[u16], proof: &mut [u16])
     ensures { PassStored k j (2 ^ col_dim k) values.now proof.old proof.new }
 {
     let rows = lines::rows(k);
-    let mut r = 0;
-    while r < rows {
+    for r in 0..rows {
         if j != lines::slot(r) {
             store_lane(k, j, r, values, proof);
         }
-        r += 1;
     }
 }
 
@@ -139,10 +135,8 @@ pub fn fill_rows(
     let n = 1usize << k;
     interpolate_rows(f, images, k, word, &mut work[..n]);
     let last = last_lanes(images, k);
-    let mut j = 0;
-    while j < 8 {
+    for j in 0..8 {
         evaluate_rows(f, images, k, j, &last, work);
         store_rows(k, j, &work[n..], proof);
-        j += 1;
     }
 }

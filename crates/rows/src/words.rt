@@ -40,12 +40,10 @@ fn row_word<'a>(k: usize, word: &'a [u16], proof: &'a [u16], r: usize) -> [u16; 
 {
     let size = lines::block_size(k);
     let mut out = no_symbols();
-    let mut j = 0;
-    while j < 8 {
+    for j in 0..8 {
         let at = j * size;
         let end = at + size;
         slices::copy(block(k, word, proof, r, j), &mut out[at..end]);
-        j += 1;
     }
     out
 }
@@ -68,10 +66,8 @@ fn column_word<'a>(k: usize, word: &'a [u16], proof: &'a [u16], a: usize) -> [u1
 {
     let rows = lines::rows(k);
     let mut out = no_symbols();
-    let mut r = 0;
-    while r < rows {
+    for r in 0..rows {
         out[r] = row_symbol(k, word, proof, r, a);
-        r += 1;
     }
     out
 }

@@ -1,10 +1,10 @@
 -- What an accepted file holds. Assumes nothing.
-use Rattle.std.specs.Prelude.{◌≡◌, refl, Bool, Ok, Err, List, [], ◌∷◌, ◌++◌, ℕ, ◌^◌, ◌≤◌, ◌<◌, length}
-use Rattle.std.proofs.Common.{sym, ◌∙◌, inl}
-use Rattle.std.proofs.Math.Path.{ap, subst}
+use Rattle.std.specs.Prelude.{◌≡◌, refl, Bool, Ok, Err, List, [], ◌∷◌, ℕ, ◌^◌, ◌≤◌, ◌<◌, length}
+use Rattle.std.proofs.Common.{◌∙◌, inl}
+use Rattle.std.proofs.Math.Path.{ap}
 use Rattle.std.proofs.Math.Logic.{inr}
 use native.Mathlib.Omega.{arith}
-use Rattle.lists.specs.Answers.{Checks, Passes, Numbered, answers-after, passes-each, numbered_append}
+use Rattle.lists.specs.Answers.{Passes, Numbered, answers-after, passes-each, numbered_append}
 use Rattle.field.specs.Calls.{modulus_numbered}
 use Rattle.field.specs.Checks.{modulus_checks, good_passes, not-less}
 use Rattle.space.specs.Ready.{Ready, ready}

@@ -1,16 +1,19 @@
--- `codec::encode` meets its contract: past the setting, what a refusal by a length leaves, and what the rest leaves.
+-- `codec::encode` meets its contract: a case for each of its ways out.
 use mathlib.Core.Path.{ap, ◌∙◌}
 use Rattle.lists.specs.Calls.{zeros}
 use Rattle.std.proofs.lemmas.Result.{err_from_is_err_and}
-use Rattle.codec.specs.Calls.{symbol_checks}
-use Rattle.codec.proofs.CallLaws.{refused_lengths, with_requires, encode_told}
+use Rattle.codec.proofs.CallLaws.{refused_setting, refused_lengths, with_requires, encode_told}
 use Rattle.codec.proofs.encode.Goals as goal
+
+pub returns-in_err-s : goal.returns-in_err-s
+returns-in_err-s c = let a = c.args in
+    let p = err_from_is_err_and c.from_residual.result c.from_residual.ensures.1 in
+    rw (p.1, p.2) (refused_setting a.modulus a.basis.now a.shift _ _ _ _ c.in_err-s.ensures a.word.now a.scratch.now)
 
 pub returns-in_err-check_lengths : goal.returns-in_err-check_lengths
 returns-in_err-check_lengths c = let a = c.args in
     let p = err_from_is_err_and c.from_residual-in_err-check_lengths.result c.from_residual-in_err-check_lengths.ensures.1 in
-    rw (p.1, p.2)
-    (refused_lengths a.modulus a.basis.now a.shift _ _ (symbol_checks a.modulus a.coefficients.now) c.in_ok-s.s c.in_ok-s.ensures _ c.in_err-check_lengths.ensures a.word.now a.scratch.now)
+    rw (p.1, p.2) (refused_lengths a.modulus a.basis.now a.shift _ _ _ c.in_ok-s.s c.in_ok-s.ensures _ c.in_err-check_lengths.ensures a.word.now a.scratch.now)
 
 pub encode_with-done-requires : goal.encode_with-done-requires
 encode_with-done-requires c = let a = c.args in

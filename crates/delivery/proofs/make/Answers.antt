@@ -4,6 +4,7 @@ use Prim.Native.Nat.{ℕ, ◌≤◌}
 use native.Mathlib.Omega.{arith}
 use lib.ListN.{length, take, drop}
 use lib.Seq.{length-take-le}
+use Rattle.std.proofs.lemmas.Result.{err_from_is_err_and}
 use Rattle.lists.specs.Answers.{Passes}
 use Rattle.space.specs.Ready.{Ready}
 use Rattle.space.specs.declared.Setting.{Setting}
@@ -12,22 +13,17 @@ use Rattle.stored.specs.File.{file_of, form_in, modulus_in, basis_in, shift_in, 
 use Rattle.stored.specs.Reader.{SettingRead}
 use Rattle.delivery.specs.Parts.{Passed}
 use Rattle.delivery.specs.Message.{word_from, message_checks}
-use Rattle.delivery.specs.MessageLaws.{message_passed, message_refuses, message_read, layout-end}
-use Rattle.delivery.proofs.make.Goals.{Start, After-check-c, Else-number-ne0, After-layout-p}
+use Rattle.delivery.specs.MessageLaws.{message_passed, message_read, layout-end}
+use Rattle.delivery.proofs.make.Goals.{Start, In_ok-setting, After-layout-p}
 use Rattle.delivery.proofs.make.Goals as goal
 
-pub returns-then-number-ne0 : goal.returns-then-number-ne0
-returns-then-number-ne0 c = let r = (goal.at.returns-then-number-ne0 c).After-check-c in
-    let a = r.args in
-    (message_refuses a.message.now (length a.out.now) r.check-c.result r.check-c.ensures c.if-number-ne0.true, refl)
+pub returns-in_err-setting : goal.returns-in_err-setting
+returns-in_err-setting c = let out = err_from_is_err_and c.from_residual.result c.from_residual.ensures.1 in rw (out.1, out.2) (c.in_err-setting.ensures, refl)
 
 -- the checks pass
-module _ (c : goal.Else-number-ne0) where
-  abbrev checked : goal.After-check-c
-  checked = (goal.at.Else-number-ne0 c).After-check-c
-
+module _ (c : goal.In_ok-setting) where
   abbrev start : goal.Start
-  start = (goal.at.Else-number-ne0 c).Start
+  start = (goal.at.In_ok-setting c).Start
 
   abbrev t : List ℕ
   t = start.args.message.now
@@ -36,13 +32,13 @@ module _ (c : goal.Else-number-ne0) where
   old = start.args.out.now
 
   abbrev found : Setting
-  found = checked.check-c.result.setting
+  found = c.in_ok-setting.setting
 
   passes : Passes (message_checks t (length old))
-  passes = (message_read t (length old) checked.check-c.result checked.check-c.ensures c.if-number-ne0.false).0
+  passes = (message_read t (length old) found c.in_ok-setting.ensures).0
 
   given : SettingRead t found
-  given = (message_read t (length old) checked.check-c.result checked.check-c.ensures c.if-number-ne0.false).1
+  given = (message_read t (length old) found c.in_ok-setting.ensures).1
 
   fit : Ready (modulus_in t) (basis_in t) found
   fit = setting_ready t found given
@@ -54,12 +50,12 @@ module _ (c : goal.Else-number-ne0) where
   room = (message_passed t (length old) passes).1
 
 pub layout-p-requires : goal.layout-p-requires
-layout-p-requires c = let r = fit (goal.at.layout-p-requires c).Else-number-ne0 in (r.sized, omega (arith, r.dimension, r.sound.high))
+layout-p-requires c = let r = fit (goal.at.layout-p-requires c).In_ok-setting in (r.sized, omega (arith, r.dimension, r.sound.high))
 
 -- the part that is lent
 module _ (c : goal.After-layout-p) where
-  abbrev here : goal.Else-number-ne0
-  here = (goal.at.After-layout-p c).Else-number-ne0
+  abbrev here : goal.In_ok-setting
+  here = (goal.at.After-layout-p c).In_ok-setting
 
   abbrev end : ℕ
   end = c.layout-p.result.end

@@ -1,4 +1,5 @@
-use mathlib.Core.Path.{◌≡◌, sym, ◌∙◌}
+use mathlib.Core.Path.{◌≡◌, sym, ◌∙◌, subst}
+use Rattle.std.specs.Prelude.{Ok}
 use mathlib.Core.List.{List}
 use Prim.Native.Nat.{ℕ, ◌+◌, ◌-◌, ◌≤◌}
 use native.Mathlib.Omega.{arith}
@@ -8,11 +9,12 @@ use Rattle.lists.specs.Decides.{decides_true}
 use Rattle.lists.specs.Overwrite.{length-put}
 use Rattle.stored.specs.File.{file_limit}
 use Rattle.report.specs.Bounds.{told_bounded}
+use Rattle.report.specs.Entry.{Told}
 use Rattle.report.specs.Report.{GoesOn, Added}
 use Rattle.report.specs.Steps.{next-added}
 use Rattle.report.specs.declared.Report.{Report}
 use borrow.Rule.Slice.PartMut.{put_mid}
-use Rattle.delivery_report.proofs.run.Goals.{At-loop-bytes, After-read_full-n, After-next-report}
+use Rattle.delivery_report.proofs.run.Goals.{At-loop-bytes, After-read_full-n, After-next-report, In-Ok}
 use Rattle.delivery_report.proofs.run.Goals as goal
 
 pub loop-bytes-init : goal.loop-bytes-init
@@ -70,19 +72,28 @@ module _ (c : goal.After-next-report) where
   added : Added (take (held filled) (bytes filled)) p c.next-report.result
   added = next-added (take (held filled) (bytes filled)) p c.next-report.result on (omega (arith, seen filled, c.if-n-eq0.false)) c.next-report.ensures
 
-  fits : c.next-report.result.latest.end ≤ held filled
-  fits = omega (arith, (told_bounded (take (held filled) (bytes filled)) c.next-report.result.latest added.latest).end, seen filled)
+-- it was accepted
+module _ (c : goal.In-Ok) where
+  abbrev next : goal.After-next-report
+  next = (goal.at.In-Ok c).After-next-report
+
+  fits : c.in-Ok.e.end ≤ held (filled next)
+  fits =
+      let a = added next in
+      let bytes' = take (held (filled next)) (bytes (filled next)) in
+      let same : a.entry ≡ Ok c.in-Ok.e = cc in
+      omega (arith, (told_bounded bytes' c.in-Ok.e (subst (Told bytes') same a.told)).end, seen (filled next))
 
 pub slice_bounds-slide-end : goal.slice_bounds-slide-end
-slice_bounds-slide-end c = let f = filled (goal.at.slice_bounds-slide-end c).After-next-report in omega (arith, whole f)
+slice_bounds-slide-end c = let f = filled (next (goal.at.slice_bounds-slide-end c).In-Ok) in omega (arith, whole f)
 
 pub slide-requires : goal.slide-requires
-slide-requires c = let g = (goal.at.slide-requires c).After-next-report in
-    let f = filled g in
+slide-requires c = let g = (goal.at.slide-requires c).In-Ok in
+    let f = filled (next g) in
     (fits g, omega (arith, whole f, few f))
 
 pub overflow_sub-n : goal.overflow_sub-n
-overflow_sub-n c = fits (goal.at.overflow_sub-n c).After-next-report
+overflow_sub-n c = fits (goal.at.overflow_sub-n c).In-Ok
 
 pub loop-bytes-smaller : goal.loop-bytes-smaller
 loop-bytes-smaller c = let g = (goal.at.loop-bytes-smaller c).After-next-report in omega (arith, (added g).read, (on g).room)

@@ -1,13 +1,9 @@
 -- The loop's invariant: the coefficients stand in work, and of each row the blocks before j are stored.
 use mathlib.Core.Path.{◌≡◌}
-use Prim.Native.Nat.{◌-◌, ◌^◌, ◌≤◌}
+use Prim.Native.Nat.{◌^◌}
 use lib.ListN.{length, take}
-use Rattle.rows.specs.Rows.{Coefficients, LastLanes, Stored}
+use Rattle.rows.specs.Rows.{Coefficients, Stored}
 use Rattle.rows.proofs.fill_rows.Given as goal
 
 abbrev pub invariant-loop-j : goal.invariant-loop-j
-invariant-loop-j l = (l.j ≤ 8) × (length l.proof ≡ length l.initial.proof) × (length l.work ≡ length l.initial.work) × Coefficients l.f.modulus l.k l.images l.word (take (2 ^ l.k) l.work) × LastLanes l.k l.images l.last
-    × Stored l.f.modulus l.k l.images l.word l.j l.proof
-
-abbrev pub decreases-loop-j : goal.decreases-loop-j
-decreases-loop-j l = 8 - l.j
+invariant-loop-j l = (length l.work ≡ length l.initial.work) × Coefficients l.f.modulus l.k l.images l.word (take (2 ^ l.k) l.work) × Stored l.f.modulus l.k l.images l.word l.j l.proof

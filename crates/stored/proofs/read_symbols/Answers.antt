@@ -63,8 +63,7 @@ layout-p-requires c = let s = (goal.at.layout-p-requires c).Start in ((fit s).si
 pub returns : goal.returns
 returns c = let t = (goal.at.returns c).After-form_of-form in
     let s = start t in
-    let form = t.form_of-form.ensures in
-    (
+    let form = t.form_of-form.ensures in (
       tested t 0 c.in_ok-check_symbols.ensures,
       read_made (bytes s) t.form_of-form.result (found s) c.layout-p.result form s.requires.1
           (c.layout-p.ensures ∙ λ i. layout_of (form i) (degree ((fit s).modulus i)) (dimension s i)),

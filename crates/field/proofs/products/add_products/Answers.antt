@@ -1,8 +1,8 @@
-use mathlib.Core.Path.{◌≡◌, refl, sym, ap, ap₂, ◌∙◌, subst}
+use mathlib.Core.Path.{◌≡◌, sym, ap, ap₂, ◌∙◌, subst}
 use mathlib.Core.List.{List}
 use Prim.Native.Nat.{ℕ, ◌+◌, ◌<◌, ◌^◌}
 use native.Mathlib.Omega.{arith}
-use lib.ListN.{length, get_or, set, length-set}
+use lib.ListN.{length, get_or, set}
 use lib.Pow.{pow_pos}
 use Rattle.field.specs.Binary.{◌⊕◌, degree, product}
 use Rattle.lists.specs.All.{Below, All-at}
@@ -17,7 +17,7 @@ pub loop-i-init : goal.loop-i-init
 loop-i-init c = let a = c.args in
     let apart = c.requires.below.2 in
     let len = length_new a.f.modulus a.c a.t.now a.from a.to a.values.now apart in
-    (omega arith, refl, sym (turned_none (length a.t.now) a.to _ a.values.now apart.second len))
+    sym (turned_none (length a.t.now) a.to _ a.values.now apart.second len)
 
 -- a turn
 module _ (c : goal.In-loop-i) where
@@ -41,13 +41,13 @@ module _ (c : goal.In-loop-i) where
 
   factor : get_or c.loop-i.values (start.args.from + i) 0 ≡ get_or start.args.values.now (start.args.from + i) 0
   factor =
-      ap (λ (x : List ℕ). get_or x (start.args.from + i) 0) c.loop-i.invariant.2
+      ap (λ (x : List ℕ). get_or x (start.args.from + i) 0) c.loop-i.invariant
       ∙ turned_outside n start.args.to changed start.args.values.now apart.second length-changed i (start.args.from + i)
       (outside start.args.f.modulus start.args.c start.args.t.now start.args.from start.args.to start.args.values.now apart i c.loop-i-test.true)
 
   summand : get_or c.loop-i.values (start.args.to + i) 0 ≡ get_or start.args.values.now (start.args.to + i) 0
   summand =
-      ap (λ (x : List ℕ). get_or x (start.args.to + i) 0) c.loop-i.invariant.2
+      ap (λ (x : List ℕ). get_or x (start.args.to + i) 0) c.loop-i.invariant
       ∙ turned-here n start.args.to changed start.args.values.now apart.second length-changed i c.loop-i-test.true
 
 pub bounds-values-from : goal.bounds-values-from
@@ -87,12 +87,9 @@ loop-i-preserved c = let here = (goal.at.loop-i-preserved c).In-loop-i in
     let x : ℕ = get_or v (a.to + i here) 0 ⊕ c.times.result in
     let e : x ≡ get_or (changed here) (i here) 0 =
     ap₂ ◌⊕◌ (summand here) (c.times.ensures ∙ ap (product a.f.modulus (get_or a.t.now (i here) 0 ⊕ a.c)) (factor here))
-    ∙ sym (new-at a.f.modulus a.c a.t.now a.from a.to a.values.now (apart here) (i here) here.loop-i-test.true) in (
-      omega arith,
-      length-set v (a.to + i here) x ∙ here.loop-i.invariant.1,
-      ap₂ (λ (z : List ℕ) (y : ℕ). set z (a.to + i here) y) here.loop-i.invariant.2 e
-          ∙ turned-next (n here) a.to (changed here) a.values.now (apart here).second (length-changed here) (i here) here.loop-i-test.true,
-    )
+    ∙ sym (new-at a.f.modulus a.c a.t.now a.from a.to a.values.now (apart here) (i here) here.loop-i-test.true) in
+    ap₂ (λ (z : List ℕ) (y : ℕ). set z (a.to + i here) y) here.loop-i.invariant e
+    ∙ turned-next (n here) a.to (changed here) a.values.now (apart here).second (length-changed here) (i here) here.loop-i-test.true
 
 pub returns : goal.returns
 unfolding accumulated
@@ -101,6 +98,6 @@ returns c = let start = (goal.at.returns c).Start in
     let apart = start.requires.below.2 in
     let len = length_new a.f.modulus a.c a.t.now a.from a.to a.values.now apart in
     let last : c.loop-i.i ≡ length a.t.now = omega arith in
-    c.loop-i.invariant.2
+    c.loop-i.invariant
     ∙ ap (turned (length a.t.now) a.to _ a.values.now) last
     ∙ turned-all (length a.t.now) a.to _ a.values.now apart.second len

@@ -25,7 +25,7 @@ pub loop-i-init : goal.loop-i-init
 loop-i-init c = let a = c.args in
     let p : 2 ^ a.l ≤ 2 ^ 16 = pow_mono {j = 16} (omega arith) in
     let none : a.y / 65536 ≡ 0 = omega arith in
-    (omega arith, sym (rw (none, product-zero-right a.modulus (pos c) a.x, zero-mul (2 ^ (16 - a.l)))))
+    sym (rw (none, product-zero-right a.modulus (pos c) a.x, zero-mul (2 ^ (16 - a.l))))
 
 -- the locals of a turn
 module _ (c : goal.At-loop-i) where
@@ -46,14 +46,14 @@ loop-i-preserved c = let here = (goal.at.loop-i-preserved c).At-loop-i in
     let i = here.loop-i.i in
     let s = 16 - a.l in
     let v = product a.modulus a.x (a.y / 2 ^ i) in
-    let acc = here.loop-i.invariant.1 in
+    let acc = here.loop-i.invariant in
     let first : c.twice.result ≡ (v * 2 ^ s % 32768 * 2) ⊕ (v * 2 ^ s / 32768 * (a.modulus * 2 ^ s % 65536)) =
     c.twice.ensures ∙ ap₂ (λ (x y : ℕ). (x % 32768 * 2) ⊕ (x / 32768 * y)) acc (low here) in
     let e = ap₂ ◌⊕◌ first (ap (λ (x : ℕ). a.y / 2 ^ (i - 1) % 2 * x) (shifted here)) in
-    (omega arith, e ∙ times-turn a.modulus s (pos (goal.at.At-loop-i here).Start) (sixteen (goal.at.At-loop-i here).Start) a.x a.y i v (left (goal.at.At-loop-i here).Start) (omega arith) refl (product-below a.modulus (pos (goal.at.At-loop-i here).Start) a.x (a.y / 2 ^ i)))
+    e ∙ times-turn a.modulus s (pos (goal.at.At-loop-i here).Start) (sixteen (goal.at.At-loop-i here).Start) a.x a.y i v (left (goal.at.At-loop-i here).Start) (omega arith) refl (product-below a.modulus (pos (goal.at.At-loop-i here).Start) a.x (a.y / 2 ^ i))
 
 pub returns : goal.returns
 returns c = let here = (goal.at.returns c).At-loop-i in
     let a = here.args in
     let last : here.loop-i.i ≡ 0 = omega arith in
-    ap (λ (x : ℕ). x / 2 ^ (16 - a.l)) (here.loop-i.invariant.1 ∙ rw (last, div-one a.y)) ∙ shl-shr (product a.modulus a.x a.y) (16 - a.l)
+    ap (λ (x : ℕ). x / 2 ^ (16 - a.l)) (here.loop-i.invariant ∙ rw (last, div-one a.y)) ∙ shl-shr (product a.modulus a.x a.y) (16 - a.l)

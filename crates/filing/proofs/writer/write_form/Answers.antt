@@ -6,8 +6,9 @@ use native.Mathlib.Nat.{lt_of_lt_of_le}
 use native.Mathlib.Omega.{arith}
 use lib.ListN.{length}
 use lib.Pow.{pow_mono}
+use Rattle.std.proofs.lemmas.Result.{err_from_is_err_and}
 use Rattle.lists.specs.All.{Below, All-weaken}
-use Rattle.lists.specs.Answers.{Answers, Passes}
+use Rattle.lists.specs.Answers.{Passes}
 use Rattle.field.specs.Binary.{degree}
 use Rattle.field.specs.Checks.{degree_range}
 use Rattle.space.specs.Sizes.{max_dim}
@@ -23,16 +24,16 @@ use Rattle.filing.specs.Put.{Put}
 use Rattle.filing.specs.PutFile.{put_record_same, put-file}
 use Rattle.filing.specs.Writer.{writer_checks}
 use Rattle.filing.specs.WriterLaws.{writer_passed}
-use Rattle.filing.proofs.writer.write_form.Goals.{Start, Else-number-ne0, After-layout-p, After-put_setting, After-put_record, After-put_record-2}
+use Rattle.filing.proofs.writer.write_form.Goals.{Start, In_ok-f, After-layout-p, After-put_setting, After-put_record, After-put_record-2}
 use Rattle.filing.proofs.writer.write_form.Goals as goal
 
-pub returns-then-number-ne0 : goal.returns-then-number-ne0
-returns-then-number-ne0 c = ((omega (arith, c.if-number-ne0.true), c.refusal-number.ensures), refl)
+pub returns-in_err-f : goal.returns-in_err-f
+returns-in_err-f c = let out = err_from_is_err_and c.from_residual.result c.from_residual.ensures.1 in rw (out.1, out.2) (c.in_err-f.ensures, refl)
 
 -- the checks pass
-module _ (c : goal.Else-number-ne0) where
+module _ (c : goal.In_ok-f) where
   abbrev start : goal.Start
-  start = (goal.at.Else-number-ne0 c).Start
+  start = (goal.at.In_ok-f c).Start
 
   abbrev g : Form
   g = start.args.form
@@ -56,7 +57,7 @@ module _ (c : goal.Else-number-ne0) where
   old = start.args.out.now
 
   passes : Passes (writer_checks g m bs σ w π (length old))
-  passes = subst (Answers (writer_checks g m bs σ w π (length old))) c.if-number-ne0.false c.refusal-number.ensures
+  passes = c.in_ok-f.ensures.0
 
   given : Delivery m bs σ w π
   given = (writer_passed g m bs σ w π (length old) passes).0
@@ -67,22 +68,16 @@ module _ (c : goal.Else-number-ne0) where
   few : length bs ≤ max_dim
   few = given.setting.high
 
-pub field_of-requires : goal.field_of-requires
-field_of-requires c = let q = (given c).setting.modulus in (q.low, q.high)
-
-pub layout-p-requires : goal.layout-p-requires
-layout-p-requires c = (c.field_of.ensures.sized, few (goal.at.layout-p-requires c).Else-number-ne0)
-
 -- the places
 module _ (c : goal.After-layout-p) where
-  abbrev e : goal.Else-number-ne0
-  e = (goal.at.After-layout-p c).Else-number-ne0
+  abbrev e : goal.In_ok-f
+  e = (goal.at.After-layout-p c).In_ok-f
 
   abbrev p : Layout
   p = c.layout-p.result
 
   found : p ≡ layout_of (g e) (degree (m e)) (length (bs e))
-  found = c.layout-p.ensures ∙ ap (λ (q : ℕ). layout_of (g e) (degree q) (length (bs e))) c.field_of.ensures.modulus
+  found = c.layout-p.ensures ∙ ap (λ (q : ℕ). layout_of (g e) (degree q) (length (bs e))) e.in_ok-f.ensures.1.modulus
 
   abbrev t : Bool
   t = narrow_of (g e) (degree (m e))
@@ -107,15 +102,6 @@ module _ (c : goal.After-layout-p) where
   short xs b =
       subst (λ (u : Bool). Below (number_top u) xs) (sym narrow)
       (All-weaken (λ (x : ℕ). x < 2 ^ degree (m e)) (λ (x : ℕ). x < number_top t) xs (λ x l. lt_of_lt_of_le l (narrow_top (g e) (degree (m e)) (degree_range (m e) (given e).setting.modulus).1)) b)
-
-pub overflow_sub-second : goal.overflow_sub-second
-overflow_sub-second c = let l = (goal.at.overflow_sub-second c).After-layout-p in omega (arith, ap (λ (x : Layout). x.word) (found l))
-
-pub overflow_sub-third : goal.overflow_sub-third
-overflow_sub-third c = let l = (goal.at.overflow_sub-third c).After-layout-p in omega (arith, ap (λ (x : Layout). x.proof) (found l))
-
-pub put_setting-requires : goal.put_setting-requires
-put_setting-requires c = let h = e (goal.at.put_setting-requires c).After-layout-p in (omega (arith, few h), omega (arith, room h))
 
 -- the setting is written
 module _ (c : goal.After-put_setting) where
@@ -168,8 +154,8 @@ module _ (c : goal.After-put_record-2) where
   abbrev l : goal.After-layout-p
   l = (goal.at.After-put_record-2 c).After-layout-p
 
-  abbrev h : goal.Else-number-ne0
-  h = (goal.at.After-put_record-2 c).Else-number-ne0
+  abbrev h : goal.In_ok-f
+  h = (goal.at.After-put_record-2 c).In_ok-f
 
   abbrev new : List ℕ
   new = c.put_record-2.new.out
@@ -179,9 +165,6 @@ module _ (c : goal.After-put_record-2) where
 
   written : new ≡ file_of (g h) (m h) (bs h) (σ h) (w h) (π h)
   written = put-file (g h) (m h) (bs h) (σ h) (w h) (π h) (given h).word (given h).proof (room h) (first (begun both)) (middle both) last
-
-pub shape_of-out : goal.shape_of-out
-shape_of-out c = let p = (goal.at.shape_of-out c).After-put_record-2 in (last p).kept ∙ (middle (both p)).kept ∙ (first (begun (both p))).kept
 
 pub returns : goal.returns
 returns c = let p = (goal.at.returns c).After-put_record-2 in (passes (h p), written p)

@@ -1,7 +1,7 @@
-use mathlib.Core.Path.{◌≡◌, ap, ◌∙◌}
+use mathlib.Core.Path.{◌≡◌, ap}
 use Prim.Native.Nat.{ℕ, ◌+◌, ◌*◌, ◌^◌, ◌≤◌, ◌<◌}
 use native.Mathlib.Omega.{arith}
-use lib.ListN.{length, length-replicate}
+use lib.ListN.{length}
 use Rattle.lists.specs.Overwrite.{length_cut}
 use Rattle.lists.specs.Tables.{part}
 use Rattle.space.specs.Sizes.{max_line}
@@ -10,9 +10,6 @@ use Rattle.proximity.specs.Proof.{block}
 use Rattle.rows.proofs.Gathering.{length_of_block, block_room, gathered_next, gathered_row}
 use Rattle.rows.proofs.words.row_word.Goals.{Start, After-block_size-size, In-loop-j}
 use Rattle.rows.proofs.words.row_word.Goals as goal
-
-pub loop-j-init : goal.loop-j-init
-loop-j-init c = (c.block_size-size.ensures, omega arith, (ap length c.no_symbols-out.ensures ∙ length-replicate {A = ℕ} max_line 0, λ i h. absurd (omega arith)))
 
 module _ (c : goal.In-loop-j) where
   abbrev size : goal.After-block_size-size
@@ -27,21 +24,8 @@ module _ (c : goal.In-loop-j) where
       let p = start.requires in
       block_room a.k p.1 a.word.now a.proof.now p.2 p.3 a.r p.4 size.block_size-size.result size.block_size-size.ensures c.loop-j.j c.loop-j-test.true
 
-pub overflow_mul-at : goal.overflow_mul-at
-overflow_mul-at c = omega (arith, room c)
-
-pub overflow_add-end : goal.overflow_add-end
-overflow_add-end c = omega (arith, room c)
-
-pub block-requires : goal.block-requires
-block-requires c = let p = (start c).requires in
-    record { le_k = (p.0, p.1, p.2, p.3); r_bound = (p.4, c.loop-j-test.true) }
-
-pub offset_bounds-out-at : goal.offset_bounds-out-at
-offset_bounds-out-at c = omega (arith, room (goal.at.offset_bounds-out-at c).In-loop-j)
-
 pub slice_bounds-out-end : goal.slice_bounds-out-end
-slice_bounds-out-end c = let fits : c.loop-j.j * c.block_size-size.result + c.block_size-size.result ≤ length c.loop-j.out = omega (arith, room (goal.at.slice_bounds-out-end c).In-loop-j, c.loop-j.invariant.2.0) in fits
+slice_bounds-out-end c = let fits : c.loop-j.j * c.block_size-size.result + c.block_size-size.result ≤ length c.loop-j.out = omega (arith, room (goal.at.slice_bounds-out-end c).In-loop-j, c.loop-j.invariant.0) in fits
 
 pub copy-requires : goal.copy-requires
 copy-requires c = let here = (goal.at.copy-requires c).In-loop-j in
@@ -53,7 +37,7 @@ copy-requires c = let here = (goal.at.copy-requires c).In-loop-j in
       arith,
       ap length c.block.ensures,
       length_of_block a.k p.1 a.word.now a.proof.now p.2 p.3 a.r p.4 z.block_size-size.result z.block_size-size.ensures l.j here.loop-j-test.true,
-      length_cut (l.j * z.block_size-size.result) z.block_size-size.result l.out (omega (arith, room here, l.invariant.2.0)),
+      length_cut (l.j * z.block_size-size.result) z.block_size-size.result l.out (omega (arith, room here, l.invariant.0)),
       z.block_size-size.ensures,
     )
 
@@ -62,12 +46,9 @@ loop-j-preserved c = let here = (goal.at.loop-j-preserved c).In-loop-j in
     let l = here.loop-j in
     let z = size here in
     let a = (start here).args in
-    let p = (start here).requires in (
-      z.block_size-size.ensures,
-      omega arith,
-      gathered_next a.k p.1 a.word.now a.proof.now p.2 p.3 a.r p.4 z.block_size-size.result z.block_size-size.ensures l.j here.loop-j-test.true l.out
-          c.block.result.now c.copy.new.dst l.invariant.2 c.block.ensures c.copy.ensures,
-    )
+    let p = (start here).requires in
+    gathered_next a.k p.1 a.word.now a.proof.now p.2 p.3 a.r p.4 z.block_size-size.result z.block_size-size.ensures l.j here.loop-j-test.true l.out
+    c.block.result.now c.copy.new.dst l.invariant c.block.ensures c.copy.ensures
 
 pub returns : goal.returns
 returns c = let l = c.loop-j in
@@ -76,5 +57,5 @@ returns c = let l = c.loop-j in
     let a = s.args in
     let p = s.requires in
     let last : l.j ≡ 8 = omega arith in
-    let g : (length l.out ≡ max_line) × ((i : ℕ) → i < 8 → part (2 ^ half a.k) i l.out ≡ block a.k a.word.now a.proof.now a.r i) = (l.invariant.2.0, λ i h. l.invariant.2.1 i (omega arith)) in
-    (l.invariant.2.0, gathered_row a.k p.1 a.word.now a.proof.now p.2 p.3 a.r p.4 z.block_size-size.result z.block_size-size.ensures l.out g)
+    let g : (length l.out ≡ max_line) × ((i : ℕ) → i < 8 → part (2 ^ half a.k) i l.out ≡ block a.k a.word.now a.proof.now a.r i) = (l.invariant.0, λ i h. l.invariant.1 i (omega arith)) in
+    (l.invariant.0, gathered_row a.k p.1 a.word.now a.proof.now p.2 p.3 a.r p.4 z.block_size-size.result z.block_size-size.ensures l.out g)

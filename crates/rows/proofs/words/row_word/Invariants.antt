@@ -1,6 +1,6 @@
 -- The loop's invariant: the first j blocks are gathered.
 use mathlib.Core.Path.{◌≡◌}
-use Prim.Native.Nat.{ℕ, ◌-◌, ◌^◌, ◌≤◌, ◌<◌}
+use Prim.Native.Nat.{ℕ, ◌^◌, ◌<◌}
 use lib.ListN.{length}
 use Rattle.lists.specs.Tables.{part}
 use Rattle.space.specs.Sizes.{max_line}
@@ -9,7 +9,4 @@ use Rattle.proximity.specs.Proof.{block}
 use Rattle.rows.proofs.words.row_word.Given as goal
 
 abbrev pub invariant-loop-j : goal.invariant-loop-j
-invariant-loop-j l = (l.size ≡ 2 ^ half l.k) × (l.j ≤ 8) × ((length l.out ≡ max_line) × ((i : ℕ) → i < l.j → part (2 ^ half l.k) i l.out ≡ block l.k l.word l.proof l.r i))
-
-abbrev pub decreases-loop-j : goal.decreases-loop-j
-decreases-loop-j l = 8 - l.j
+invariant-loop-j l = (length l.out ≡ max_line) × ((i : ℕ) → i < l.j → part (2 ^ half l.k) i l.out ≡ block l.k l.word l.proof l.r i)
