@@ -10,19 +10,19 @@ mod largest;
 use anyhow::Result;
 use case::Case;
 use case_lines::{Symbols, zeros};
-use codec::Outcome;
+use refusals::Refusal;
 use std::alloc::Global;
 use std::fmt;
 
 // What came of a call, beside its output.
 #[derive(Clone, Copy)]
-struct Answer(Outcome);
+struct Answer(Result<(), Refusal>);
 
 impl fmt::Display for Answer {
     fn fmt<W: fmt::Write>(&self, f: &mut fmt::Formatter<W>) -> fmt::Result {
         match self.0 {
-            Outcome::Done => write!(f, "done"),
-            Outcome::Refused(n) => write!(f, "refused {n}"),
+            Ok(()) => write!(f, "done"),
+            Err(e) => write!(f, "{e}"),
         }
     }
 }

@@ -7,18 +7,18 @@
 mod large;
 
 use case_lines::{Symbols, zeros};
-use correction::Correction;
+use refusals::Refusal;
 use std::{fmt, io};
 
 // What came of a call, beside its output.
 #[derive(Clone, Copy)]
-struct Answer(Correction);
+struct Answer(Result<usize, Refusal>);
 
 impl fmt::Display for Answer {
     fn fmt<W: fmt::Write>(&self, f: &mut fmt::Formatter<W>) -> fmt::Result {
         match self.0 {
-            Correction::Corrected(n) => write!(f, "corrected {n}"),
-            Correction::Refused(n) => write!(f, "refused {n}"),
+            Ok(n) => write!(f, "corrected {n}"),
+            Err(e) => write!(f, "{e}"),
         }
     }
 }

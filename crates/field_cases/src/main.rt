@@ -2,29 +2,21 @@
 // borders of the checks: a line for each, held to the file stdout.
 #![tactic(auto)]
 
-use field::Value;
+use refusals::Refusal;
 use std::io;
 
-// The symbol, or the number of the refusal.
-fn symbol(v: Value) -> Result<u16, u8> {
+fn show(rt: &impl Print, label: &str, v: Result<u16, Refusal>) -> io::Result<()> {
     match v {
-        Value::Symbol(x) => Ok(x),
-        Value::Refused(n) => Err(n),
-    }
-}
-
-fn show(rt: &impl Print, label: &str, v: Value) -> io::Result<()> {
-    match symbol(v) {
         Ok(x) => println!(rt; "{label} = {x}"),
-        Err(n) => println!(rt; "{label} refused {n}"),
+        Err(e) => println!(rt; "{label} {e}"),
     }
 }
 
 // A product modulo 283 in the standard's own notation: two hex digits.
 fn bytes(rt: &impl Print, a: u16, b: u16) -> io::Result<()> {
-    match symbol(field::product(283, a, b)) {
+    match field::product(283, a, b) {
         Ok(x) => println!(rt; "{{{a:02x}}} * {{{b:02x}}} = {x:02x}"),
-        Err(n) => println!(rt; "{{{a:02x}}} * {{{b:02x}}} refused {n}"),
+        Err(e) => println!(rt; "{{{a:02x}}} * {{{b:02x}}} {e}"),
     }
 }
 

@@ -7,25 +7,23 @@ use std::io;
 
 // The label, then the dimension of a setting that passes, or the number of the refusal.
 fn show(rt: &impl Print, label: &str, modulus: u32, basis: &[u16], shift: u16) -> io::Result<()> {
-    let refusal = space::check(modulus, basis, shift).refusal;
-    if refusal != 0 {
-        return println!(rt; "{label}: refused {refusal}");
+    match space::check(modulus, basis, shift) {
+        Ok(_) => println!(rt; "{label}: k {}", basis.len()),
+        Err(e) => println!(rt; "{label}: {e}"),
     }
-    println!(rt; "{label}: k {}", basis.len())
 }
 
 // W_2(x), the subspace polynomial of the first two basis elements; none where the setting is refused
 // or x is no symbol.
 fn second_value(modulus: u32, basis: &[u16], x: u16) -> Option<u16> {
-    let c = space::check(modulus, basis, 0);
-    if c.refusal != 0 {
+    let Ok(s) = space::check(modulus, basis, 0) else {
         return None;
-    }
-    let f = c.setting.field;
+    };
+    let f = s.field;
     if !is_symbol(f, x) {
         return None;
     }
-    Some(value(f, &c.setting.steps, 2, x))
+    Some(value(f, &s.steps, 2, x))
 }
 
 fn moduli(rt: &impl Print) -> io::Result<()> {

@@ -5,9 +5,9 @@ use Rattle.space.specs.Ready.{Ready, ready, steps-below}
 use Rattle.setting_cases.proofs.second_value.Goals as goal
 
 pub is_symbol-requires : goal.is_symbol-requires
-is_symbol-requires c = let passed : Ready c.args.modulus c.args.basis.now c.check-c.result.setting = ready _ _ _ _ c.check-c.ensures c.if-c-ne0.false in
+is_symbol-requires c = let passed : Ready c.args.modulus c.args.basis.now c.in-Ok.s = ready _ _ _ _ c.in-Ok.ensures in
     passed.sized
 
 pub value-requires : goal.value-requires
-value-requires c = let passed : Ready c.args.modulus c.args.basis.now c.check-c.result.setting = ready _ _ _ _ c.check-c.ensures c.if-c-ne0.false in
+value-requires c = let passed : Ready c.args.modulus c.args.basis.now c.in-Ok.s = ready _ _ _ _ c.in-Ok.ensures in
     (passed.sized, rw passed.modulus (steps-below passed), omega arith, decides_true _ c.is_symbol.ensures c.if-not-is_symbol.false)
