@@ -1,9 +1,10 @@
 -- Cases P5 and P6 of document 01, by the contract of the checker with the shift 0: the checks pass, and the verdict comes with the number of symbols read, a reject with the degree.
 -- `proximity/specs/Cases` has the verdicts alone.
-use Rattle.std.specs.Prelude.{◌≡◌, refl, List, [], ◌∷◌, ℕ, zero, suc, ◌+◌, ◌^◌, ◌≤◌, ◌<◌, length, get_or, set}
+use Rattle.std.specs.Prelude.{◌≡◌, refl, Result, Ok, List, [], ◌∷◌, ℕ, zero, suc, ◌+◌, ◌^◌, ◌≤◌, ◌<◌, length, get_or, set}
 use Rattle.std.proofs.Common.{sym, subst, inr, arith, length-set, pow_pos}
 use Rattle.lists.specs.All.{All, Below, All-inside}
 use Rattle.lists.specs.Answers.{Passes}
+use Rattle.refusals.specs.declared.Refusal.{Refusal}
 use Rattle.lists.specs.Tables.{tab, All-tab}
 use Rattle.field.specs.Binary.{◌⊕◌, degree, product}
 use Rattle.field.specs.Symbols.{symbols}
@@ -32,20 +33,20 @@ module _ (m : ℕ) (bs : List ℕ) (s : Sound m bs 0) (h : length bs ≤ 6) (w :
   read : Passes ((9, (All (symbols m).Sym w → ⊥)) ∷ [])
   read = inr ((λ f. f b), refl)
 
-  told : (v : Verdict) → By (symbols m) (Codeword (symbols m) k bs w) (2 ^ k) k bs w v → Told m bs 0 w [] 0 v
+  told : (v : Result Verdict Refusal) → By (symbols m) (Codeword (symbols m) k bs w) (2 ^ k) k bs w v → Told m bs 0 w [] 0 v
   told v a =
       told_coin m bs 0 w [] 0 (sound_passes m bs 0 s) (delivery-passes k (length w) 0 0 lw (sym (S_leaf k h)) (pow_pos (R k))) v (on-short (symbols m) k h bs w [] lw 0 v a)
 
-  small_accept : Codeword (symbols m) k bs w → Told m bs 0 w [] 0 (Accept (2 ^ k))
-  small_accept a = told (Accept (2 ^ k)) (read, refl, a)
+  small_accept : Codeword (symbols m) k bs w → Told m bs 0 w [] 0 (Ok (Accept (2 ^ k)))
+  small_accept a = told (Ok (Accept (2 ^ k))) (read, (refl, a))
 
-  small_reject : (g : ℕ) → (Codeword (symbols m) k bs w → ⊥) → LeastDegree (symbols m) (word_of (symbols m) k bs) w g → Told m bs 0 w [] 0 (Reject (record { reads = 2 ^ k; degree = g; dimension = k }))
-  small_reject g a l = told (Reject (record { reads = 2 ^ k; degree = g; dimension = k })) (read, refl, a, l, refl)
+  small_reject : (g : ℕ) → (Codeword (symbols m) k bs w → ⊥) → LeastDegree (symbols m) (word_of (symbols m) k bs) w g → Told m bs 0 w [] 0 (Ok (Reject (record { reads = 2 ^ k; degree = g; dimension = k })))
+  small_reject g a l = told (Ok (Reject (record { reads = 2 ^ k; degree = g; dimension = k }))) (read, (refl, a, l, refl))
 
 -- ---- P5: modulus 11, basis 1, 2, 4: all 5 accepted; 5 with one 6, at any position, rejected with the degree 7; 8 symbols read
 
 abbrev pub P5 : Type 0
-P5 = Told 11 basis_8 0 fives [] 0 (Accept 8) × ((i : ℕ) → i < 8 → Told 11 basis_8 0 (set fives i 6) [] 0 (Reject (record { reads = 8; degree = 7; dimension = 3 })))
+P5 = Told 11 basis_8 0 fives [] 0 (Ok (Accept 8)) × ((i : ℕ) → i < 8 → Told 11 basis_8 0 (set fives i 6) [] 0 (Ok (Reject (record { reads = 8; degree = 7; dimension = 3 }))))
 
 below_set : (n : ℕ) (xs : List ℕ) (i x : ℕ) → x < n → Below n xs → Below n (set xs i x)
 below_set n [] i x h b = tt
@@ -83,7 +84,7 @@ p5 = (
 -- ---- P6: modulus 19, basis 1, 2, 4, 8: symbol i at position i accepted; i·i rejected with the degree 2; 16 symbols read
 
 abbrev pub P6 : Type 0
-P6 = Told 19 basis_16 0 (tab 16 (λ i. i)) [] 0 (Accept 16) × Told 19 basis_16 0 (tab 16 (λ i. product 19 i i)) [] 0 (Reject (record { reads = 16; degree = 2; dimension = 4 }))
+P6 = Told 19 basis_16 0 (tab 16 (λ i. i)) [] 0 (Ok (Accept 16)) × Told 19 basis_16 0 (tab 16 (λ i. product 19 i i)) [] 0 (Ok (Reject (record { reads = 16; degree = 2; dimension = 4 })))
 
 sixteen : (i : ℕ) → i < 16 → i < 2 ^ degree 19
 unfolding degree

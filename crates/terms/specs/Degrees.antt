@@ -1,6 +1,6 @@
--- The degree behind a reject. `Told m bs σ w π coin (Reject r)` says of it: r.degree is the least degree of a polynomial through the symbols at the
+-- The degree behind a reject. `Told m bs σ w π coin (Ok (Reject r))` says of it: r.degree is the least degree of a polynomial through the symbols at the
 -- coin's positions, as a word over the space at which the coin ends, and r.dimension is the dimension of that space.
-use Rattle.std.specs.Prelude.{◌≡◌, refl, ◌⊎◌, List, ℕ, suc, ◌+◌, ◌^◌, ◌≤◌, ◌<◌, length}
+use Rattle.std.specs.Prelude.{◌≡◌, refl, ◌⊎◌, Ok, Err, List, ℕ, suc, ◌+◌, ◌^◌, ◌≤◌, ◌<◌, length}
 use Rattle.std.proofs.Common.{sym, ap, ◌∙◌, subst, inl, inr, arith}
 use Rattle.std.proofs.Math.Decide.{dec_le}
 use Rattle.lists.specs.All.{All, IsZero}
@@ -28,7 +28,7 @@ use Rattle.verifier.specs.Checker.{symbols_at, reads_of, Told}
 use Rattle.verifier.specs.Rejected.{InBounds, told_bounds}
 use Rattle.verifier.specs.Verdicts.{told_coin, delivery-passes}
 use Rattle.verifier.specs.declared.Rejection.{Rejection}
-use Rattle.verifier.specs.declared.Verdict.TheVariants.{Accept, Reject, Refused}
+use Rattle.verifier.specs.declared.Verdict.TheVariants.{Accept, Reject}
 use Rattle.stored.specs.Check.{coin_checks, AnsweredFile}
 use Rattle.host.specs.Answer.{code_of, told_after, HostAnswer, HostDegree}
 use Rattle.terms.specs.OneAnswer.{one-file-answer}
@@ -42,25 +42,25 @@ module _ (m : ℕ) (bs : List ℕ) (σ : ℕ) (w π : List ℕ) (coin : ℕ) whe
   word_there τ = word_at (symbols m) τ (leaf_dim (dim (length bs)) coin) (leaf_basis (symbols m) (dim (length bs)) bs coin)
 
   -- The bounds: m being the dimension of the short word, the degree is between 2^(m-3) and 2^m - 1, and 2^m symbols are read; m is 3 to 6.
-  pub degree_bounds : (r : Rejection) → Told m bs σ w π coin (Reject r) → InBounds r
+  pub degree_bounds : (r : Rejection) → Told m bs σ w π coin (Ok (Reject r)) → InBounds r
   degree_bounds = told_bounds m bs σ w π coin
 
   -- The degree is that over the space itself, and the same over each shift of it.
-  pub degree-at_shifts : Sound m bs σ → (r : Rejection) → Told m bs σ w π coin (Reject r) → (τ : ℕ) → (symbols m).Sym τ → LeastDegree (symbols m) (word_there τ) (symbols_at (length bs) w π coin) r.degree
-  degree-at_shifts s r (p, e, a, l, d) τ sτ =
+  pub degree-at_shifts : Sound m bs σ → (r : Rejection) → Told m bs σ w π coin (Ok (Reject r)) → (τ : ℕ) → (symbols m).Sym τ → LeastDegree (symbols m) (word_there τ) (symbols_at (length bs) w π coin) r.degree
+  degree-at_shifts s r (p, (e, a, l, d)) τ sτ =
       (least_shift (sound_field s) (leaf_dim (dim (length bs)) coin) (leaf_basis (symbols m) (dim (length bs)) bs coin) τ sτ (symbols_at (length bs) w π coin) r.degree).0 l
 
   -- No other number is it.
-  pub one-degree : Sound m bs σ → (r : Rejection) → Told m bs σ w π coin (Reject r) → (τ : ℕ) → (symbols m).Sym τ → (g : ℕ) → LeastDegree (symbols m) (word_there τ) (symbols_at (length bs) w π coin) g → r.degree ≡ g
+  pub one-degree : Sound m bs σ → (r : Rejection) → Told m bs σ w π coin (Ok (Reject r)) → (τ : ℕ) → (symbols m).Sym τ → (g : ℕ) → LeastDegree (symbols m) (word_there τ) (symbols_at (length bs) w π coin) g → r.degree ≡ g
   one-degree s r t τ sτ g l = least_unique (degree-at_shifts s r t τ sτ) l
 
   -- Every pair in range that is not accepted at a coin is answered by a reject: a degree is there.
   pub reject_answered : Sound m bs σ → length w ≡ 2 ^ length bs → length π ≡ S (length bs) → coin < 2 ^ R (length bs) → All (symbols m).Sym (symbols_at (length bs) w π coin)
-      → (Accepts (symbols m) (dim (length bs)) bs w π coin → ⊥) → (r : Rejection) × Told m bs σ w π coin (Reject r)
+      → (Accepts (symbols m) (dim (length bs)) bs w π coin → ⊥) → (r : Rejection) × Told m bs σ w π coin (Ok (Reject r))
   reject_answered s lw lπ h sy n =
       let (g, l) = degree_exists (sound_field s) (dim (length bs)) bs w π s.basis lw lπ coin sy n in
       let r : Rejection = record { reads = reads_of (length bs) coin; degree = g; dimension = leaf_dim (dim (length bs)) coin } in
-      (r, told_coin m bs σ w π coin (sound_passes m bs σ s) (delivery-passes (length bs) (length w) (length π) coin lw lπ h) (Reject r) (inr ((λ f. f sy), refl), refl, n, l, refl))
+      (r, told_coin m bs σ w π coin (sound_passes m bs σ s) (delivery-passes (length bs) (length w) (length π) coin lw lπ h) (Ok (Reject r)) (inr ((λ f. f sy), refl), (refl, n, l, refl)))
 
 -- ---- how badly
 
@@ -100,18 +100,18 @@ module _ (f : List ℕ) (coin : ℕ) (before : Rejection) where
 
   -- It answers as the call that tells the reads alone.
   pub same_as_reads : (after : Rejection) (r : ℕ) → HostDegree f coin before after r → HostAnswer f coin before.reads after.reads r
-  same_as_reads after r (Accept n, a, e, h) = (Accept n, a, e, ap (λ (x : Rejection). x.reads) h)
-  same_as_reads after r (Reject x, a, e, h) = (Reject x, a, e, ap (λ (x : Rejection). x.reads) h)
-  same_as_reads after r (Refused n, a, e, h) = (Refused n, a, e, ap (λ (x : Rejection). x.reads) h)
+  same_as_reads after r (Ok (Accept n), a, e, h) = (Ok (Accept n), a, e, ap (λ (x : Rejection). x.reads) h)
+  same_as_reads after r (Ok (Reject x), a, e, h) = (Ok (Reject x), a, e, ap (λ (x : Rejection). x.reads) h)
+  same_as_reads after r (Err n, a, e, h) = (Err n, a, e, ap (λ (x : Rejection). x.reads) h)
 
   -- 0 accepts, with 0 and 0 for degree and dimension; 100 rejects, with those of the reject; a refusal leaves all three.
   abbrev pub DegreeApart : Rejection → ℕ → Type 0
   DegreeApart after r =
-      ((r ≡ 0) × AnsweredFile f coin (Accept after.reads) × (after.degree ≡ 0) × (after.dimension ≡ 0))
-      ⊎ (((r ≡ 100) × AnsweredFile f coin (Reject after)) ⊎ ((r ≤ 12) × Refuses (coin_checks f coin) r × (after ≡ before)))
+      ((r ≡ 0) × AnsweredFile f coin (Ok (Accept after.reads)) × (after.degree ≡ 0) × (after.dimension ≡ 0))
+      ⊎ (((r ≡ 100) × AnsweredFile f coin (Ok (Reject after))) ⊎ ((r ≤ 12) × Refuses (coin_checks f coin) r × (after ≡ before)))
 
   pub degree-apart : (after : Rejection) (r : ℕ) → HostDegree f coin before after r → DegreeApart after r
-  degree-apart after r (Accept n, a, e, h) =
-      inl (e, subst (λ (x : ℕ). AnsweredFile f coin (Accept x)) (sym (ap (λ (x : Rejection). x.reads) h)) a, ap (λ (x : Rejection). x.degree) h, ap (λ (x : Rejection). x.dimension) h)
-  degree-apart after r (Reject x, a, e, h) = inr (inl (e, subst (λ (y : Rejection). AnsweredFile f coin (Reject y)) (sym h) a))
-  degree-apart after r (Refused n, a, e, h) = inr (inr (omega (arith, (refused_file_check f coin n a).1), subst (Refuses (coin_checks f coin)) (sym e) a, h))
+  degree-apart after r (Ok (Accept n), a, e, h) =
+      inl (e, subst (λ (x : ℕ). AnsweredFile f coin (Ok (Accept x))) (sym (ap (λ (x : Rejection). x.reads) h)) a, ap (λ (x : Rejection). x.degree) h, ap (λ (x : Rejection). x.dimension) h)
+  degree-apart after r (Ok (Reject x), a, e, h) = inr (inl (e, subst (λ (y : Rejection). AnsweredFile f coin (Ok (Reject y))) (sym h) a))
+  degree-apart after r (Err n, a, e, h) = inr (inr (omega (arith, e, (refused_file_check f coin n a).1), subst (Refuses (coin_checks f coin)) (sym e) a, h))

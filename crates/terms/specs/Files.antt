@@ -1,17 +1,18 @@
 -- The printed sentences for stored files and for the call from C. `AnsweredFile f coin v` is the contract of stored's `check_file` for its
 -- answer v on the file f and the coin. `HostAnswer f coin before after r` is that of host's `proximity_check_file`: its answer is the
 -- number r, and the lent number of reads is `before` when it comes and `after` when it goes back.
-use Rattle.std.specs.Prelude.{◌≡◌, refl, ◌⊎◌, ◌↔◌, List, map, ℕ, ◌^◌, ◌≤◌, ◌<◌, length}
+use Rattle.std.specs.Prelude.{◌≡◌, refl, ◌⊎◌, ◌↔◌, Result, Ok, Err, List, map, ℕ, ◌^◌, ◌≤◌, ◌<◌, length}
 use Rattle.std.proofs.Common.{sym, ap, ◌∙◌, subst, inl, inr, arith}
 use Rattle.std.proofs.Math.Path.{transport}
 use Rattle.lists.specs.Answers.{Passes, Refuses}
+use Rattle.refusals.specs.declared.Refusal.{Refusal}
 use Rattle.field.specs.Binary.{degree}
 use Rattle.proximity.specs.Dim.{dim, S, R}
 use Rattle.proximity.specs.Verifier.{positions, read_at}
 use Rattle.verifier.specs.Checker.{Told}
 use Rattle.verifier.specs.declared.Rejection.{Rejection}
 use Rattle.verifier.specs.declared.Verdict.{Verdict}
-use Rattle.verifier.specs.declared.Verdict.TheVariants.{Accept, Reject, Refused}
+use Rattle.verifier.specs.declared.Verdict.TheVariants.{Accept, Reject}
 use Rattle.stored.specs.Check.{coin_checks, AnsweredFile}
 use Rattle.stored.specs.File.{modulus_in, dim_in, basis_in, shift_in, word_in, proof_in}
 use Rattle.stored.proofs.OnSymbols as on-symbols
@@ -30,14 +31,14 @@ use Rattle.terms.specs.Terms.{AcceptedAtAllCoins, accepted_exactly}
 -- ---- stored files
 
 -- The checker over an accepted file answers as the checker on the setting, the word and the proof in it.
-pub file-answers : (f : List ℕ) → Passes (file_checks f) → (coin : ℕ) (v : Verdict) → AnsweredFile f coin v ↔ Told (modulus_in f) (basis_in f) (shift_in f) (word_in f) (proof_in f) coin v
+pub file-answers : (f : List ℕ) → Passes (file_checks f) → (coin : ℕ) (v : Result Verdict Refusal) → AnsweredFile f coin v ↔ Told (modulus_in f) (basis_in f) (shift_in f) (word_in f) (proof_in f) coin v
 file-answers = on-symbols.file-answers
 
 -- Two accepted files of one modulus and one basis, alike at the coin's positions, get the same answer at that coin, a refusal included, whatever
 -- their forms and their shifts.
 module _ (f g : List ℕ) (pf : Passes (file_checks f)) (pg : Passes (file_checks g)) (em : modulus_in f ≡ modulus_in g) (eb : basis_in f ≡ basis_in g) (coin : ℕ)
     (alike : map (read_at (word_in f) (proof_in f)) (positions (dim (dim_in f)) coin) ≡ map (read_at (word_in g) (proof_in g)) (positions (dim (dim_in f)) coin)) where
-  pub alike_files : (v : Verdict) → AnsweredFile f coin v → AnsweredFile g coin v
+  pub alike_files : (v : Result Verdict Refusal) → AnsweredFile f coin v → AnsweredFile g coin v
   alike_files v a =
       (file-answers g pg coin v).1
       (transport (λ i. Told (em i) (eb i) (shift_in g) (word_in g) (proof_in g) coin v) (same_verdict (modulus_in f) (basis_in f) (shift_in f) (shift_in g) df.setting.shift in_range (word_in g) (proof_in g) coin v in_setting))
@@ -78,12 +79,12 @@ module _ (f : List ℕ) (coin before : ℕ) where
   -- The number tells the verdicts and the refusals apart: 0 accepts, 100 rejects, and a refusal has a number from 1 to 12.
   abbrev pub ToldApart : ℕ → ℕ → Type 0
   ToldApart after r =
-      ((r ≡ 0) × AnsweredFile f coin (Accept after)) ⊎ (((r ≡ 100) × ((x : Rejection) × AnsweredFile f coin (Reject x) × (after ≡ x.reads))) ⊎ ((r ≤ 12) × Refuses (coin_checks f coin) r × (after ≡ before)))
+      ((r ≡ 0) × AnsweredFile f coin (Ok (Accept after))) ⊎ (((r ≡ 100) × ((x : Rejection) × AnsweredFile f coin (Ok (Reject x)) × (after ≡ x.reads))) ⊎ ((r ≤ 12) × Refuses (coin_checks f coin) r × (after ≡ before)))
 
   pub told-apart : (after r : ℕ) → HostAnswer f coin before after r → ToldApart after r
-  told-apart after r (Accept n, a, e, h) = inl (e, subst (λ (x : ℕ). AnsweredFile f coin (Accept x)) (sym h) a)
-  told-apart after r (Reject x, a, e, h) = inr (inl (e, (x, a, h)))
-  told-apart after r (Refused n, a, e, h) = inr (inr (omega (arith, (refused_file_check f coin n a).1), subst (Refuses (coin_checks f coin)) (sym e) a, h))
+  told-apart after r (Ok (Accept n), a, e, h) = inl (e, subst (λ (x : ℕ). AnsweredFile f coin (Ok (Accept x))) (sym h) a)
+  told-apart after r (Ok (Reject x), a, e, h) = inr (inl (e, (x, a, h)))
+  told-apart after r (Err n, a, e, h) = inr (inr (omega (arith, e, (refused_file_check f coin n a).1), subst (Refuses (coin_checks f coin)) (sym e) a, h))
 
 -- Sentence 3, first part, of the call from C: an accepted file is accepted at every coin exactly where its word evaluates a polynomial of
 -- degree below an eighth of its length at the shifted elements, and its proof is the one laid out for it.
@@ -94,9 +95,9 @@ module _ (f : List ℕ) (p : Passes (file_checks f)) where
   pub accepted_exactly_from-c : AcceptedFromC ↔ ProofAt (modulus_in f) (basis_in f) (shift_in f) (word_in f) (proof_in f)
   accepted_exactly_from-c = (
     (λ g. exactly.0 (λ coin h. let (reads, a) = g coin (subst (λ (k : ℕ). coin < 2 ^ R k) (length_basis f) h) 0 in
-        (reads, (file-answers f p coin (Accept reads)).0 (zero_accepts coin reads (told-apart f coin 0 reads 0 a))))),
+        (reads, (file-answers f p coin (Ok (Accept reads))).0 (zero_accepts coin reads (told-apart f coin 0 reads 0 a))))),
     λ H coin h before. let (reads, t) = exactly.1 H coin (subst (λ (k : ℕ). coin < 2 ^ R k) (sym (length_basis f)) h) in
-        (reads, (Accept reads, (file-answers f p coin (Accept reads)).1 t, refl, refl)),
+        (reads, (Ok (Accept reads), (file-answers f p coin (Ok (Accept reads))).1 t, refl, refl)),
   )
     where
       d : Delivery (modulus_in f) (basis_in f) (shift_in f) (word_in f) (proof_in f)
@@ -105,7 +106,7 @@ module _ (f : List ℕ) (p : Passes (file_checks f)) where
       exactly : AcceptedAtAllCoins (modulus_in f) (basis_in f) (shift_in f) d.setting (word_in f) (proof_in f) d.word d.proof ↔ ProofAt (modulus_in f) (basis_in f) (shift_in f) (word_in f) (proof_in f)
       exactly = accepted_exactly (modulus_in f) (basis_in f) (shift_in f) d.setting (word_in f) (proof_in f) d.word d.proof
 
-      zero_accepts : (coin reads : ℕ) → ToldApart f coin 0 reads 0 → AnsweredFile f coin (Accept reads)
+      zero_accepts : (coin reads : ℕ) → ToldApart f coin 0 reads 0 → AnsweredFile f coin (Ok (Accept reads))
       zero_accepts coin reads (inl a) = a.1
       zero_accepts coin reads (inr (inl a)) = absurd (omega arith)
       zero_accepts coin reads (inr (inr a)) = absurd (omega arith)

@@ -1,11 +1,15 @@
 -- The printed sentences for the two forms of a stored file. `Wrote form m bs σ w π old new u` is the contract of filing's `write` (form 1, the
--- shift 0) and `write_form_two`, `Converted f old new u` that of `convert`: the outcome is u, the lent output is old before and new after.
+-- shift 0) and `write_form_two`, `Converted f old new u` that of `convert`: the answer is u, the lent output is old before and new after.
 -- `LengthTold f r` is that of `converted_length`. A list f of bytes has `Below 256 f`.
-use Rattle.std.specs.Prelude.{◌≡◌, refl, ◌↔◌, List, [], ◌∷◌, map, ℕ, ◌+◌, ◌*◌, ◌≤◌, ◌<◌, length, get_or}
+use Rattle.std.specs.Prelude.{◌≡◌, refl, ◌↔◌, Result, Ok, Err, List, [], ◌∷◌, map, ℕ, ◌+◌, ◌*◌, ◌≤◌, ◌<◌, length, get_or}
 use Rattle.std.proofs.Common.{sym, ap, ◌∙◌, subst, inl, inr, arith}
 use Rattle.std.proofs.Math.Decide.{ℕ_discrete}
 use Rattle.lists.specs.All.{Below}
 use Rattle.lists.specs.Answers.{Checks, Answers, Passes, Refuses, answers-after, answers_one, refused_first, not_refused}
+use Rattle.refusals.specs.Gives.{one_reason}
+use Rattle.refusals.specs.Refusal.{number}
+use Rattle.refusals.specs.declared.Refusal.{Refusal}
+use Rattle.refusals.specs.declared.Refusal.TheVariants.{Shifted}
 use Rattle.field.specs.Checks.{GoodModulus, good_passes}
 use Rattle.space.specs.Sizes.{max_dim}
 use Rattle.space.specs.Sound.{outside}
@@ -22,13 +26,10 @@ use Rattle.stored.proofs.Whole.{accepted_delivery}
 use Rattle.stored.specs.declared.Form.{Form}
 use Rattle.stored.specs.declared.Form.TheVariants.{One, Two}
 use Rattle.filing.specs.Convert.{other, converted, converted_end, convert_checks, Converted, LengthTold}
-use Rattle.filing.specs.ConvertLaws.{one-file, converted_accepted, converted_gives, length_converted, there_and_back, shift_refused, shift_passes, convert_refused, convert_long, convert_passes, convert_passed, length_told}
+use Rattle.filing.specs.ConvertLaws.{one-file, converted_accepted, converted_gives, length_converted, there_and_back, shift_refused, shift_passes, convert_refused, convert_long, convert_passes, convert_passed}
 use Rattle.filing.specs.Filed.{Filed}
 use Rattle.filing.specs.Writer.{Wrote, writer_checks}
 use Rattle.filing.specs.WriterLaws as writer
-use Rattle.filing.specs.declared.ConvertedLength.{ConvertedLength}
-use Rattle.filing.specs.declared.Outcome.{Outcome}
-use Rattle.filing.specs.declared.Outcome.TheVariants.{Written, Refused}
 use Rattle.terms.specs.Files.{alike_files}
 
 -- the marks of the two forms differ
@@ -37,14 +38,14 @@ marks_differ One = (λ e. absurd (omega arith), λ e. absurd (omega arith))
 marks_differ Two = (λ e. absurd (omega arith), λ e. absurd (omega arith))
 
 -- a call that no check refuses writes its file
-filed : (cs : Checks) (file old new : List ℕ) (u : Outcome) → Passes cs → Filed cs file old new u → (u ≡ Written) × (new ≡ file)
-filed cs file old new Written p (q, e) = (refl, e)
-filed cs file old new (Refused n) p (r, e) = absurd (not_refused cs p r)
+filed : (cs : Checks) (file old new : List ℕ) (u : Result (Unit {0}) Refusal) → Passes cs → Filed cs file old new u → (u ≡ Ok tt) × (new ≡ file)
+filed cs file old new (Ok x) p (q, e) = (refl, e)
+filed cs file old new (Err x) p (r, e) = absurd (not_refused cs p r)
 
--- a call that a check refuses has its number
-refused_by : (cs : Checks) (file old new : List ℕ) (u : Outcome) (n : ℕ) → 0 < n → Answers cs n → Filed cs file old new u → u ≡ Refused n
-refused_by cs file old new Written n l a (p, e) = absurd (not_refused cs p (l, a))
-refused_by cs file old new (Refused m) n l a ((k, b), e) = ap Refused (answers_one cs b a)
+-- a call that a check refuses has its reason
+refused_by : (cs : Checks) (file old new : List ℕ) (u : Result (Unit {0}) Refusal) (d : Refusal) → Refuses cs (number d) → Filed cs file old new u → u ≡ Err d
+refused_by cs file old new (Ok x) d r (p, e) = absurd (not_refused cs p r)
+refused_by cs file old new (Err x) d (l, a) ((k, b), e) = ap Err (one_reason {d = x} {e = d} (answers_one cs b a))
 
 -- ---- the reader
 
@@ -84,17 +85,17 @@ module _ (f : List ℕ) where
 
 module _ (form : Form) (m : ℕ) (bs : List ℕ) (σ : ℕ) (w π old new : List ℕ) where
   -- What is written is read back: the form, the setting with its shift, the word and the proof.
-  pub written_back : Carries form σ → Wrote form m bs σ w π old new Written → Passes (file_checks new) × Gives new form m bs σ w π
+  pub written_back : Carries form σ → Wrote form m bs σ w π old new (Ok tt) → Passes (file_checks new) × Gives new form m bs σ w π
   written_back c (p, e) =
       subst (λ (f : List ℕ). Passes (file_checks f) × Gives f form m bs σ w π) (sym e) (writer.written_back form m bs σ w π (length old) p c)
 
   -- It is the only byte string that the reader takes for them in that form.
-  pub written-alone : (f : List ℕ) → Below 256 f → Passes (file_checks f) → Gives f form m bs σ w π → Wrote form m bs σ w π old new Written → f ≡ new
+  pub written-alone : (f : List ℕ) → Below 256 f → Passes (file_checks f) → Gives f form m bs σ w π → Wrote form m bs σ w π old new (Ok tt) → f ≡ new
   written-alone f b q g (p, e) = one-file b q g ∙ sym e
 
 -- So each accepted file is what the writer makes, of the form, the setting, the word and the proof in it.
-pub accepted_written : (f : List ℕ) → Below 256 f → Passes (file_checks f) → (old new : List ℕ) (u : Outcome) → length old ≡ length f
-    → Wrote (form_in f) (modulus_in f) (basis_in f) (shift_in f) (word_in f) (proof_in f) old new u → (u ≡ Written) × (new ≡ f)
+pub accepted_written : (f : List ℕ) → Below 256 f → Passes (file_checks f) → (old new : List ℕ) (u : Result (Unit {0}) Refusal) → length old ≡ length f
+    → Wrote (form_in f) (modulus_in f) (basis_in f) (shift_in f) (word_in f) (proof_in f) old new u → (u ≡ Ok tt) × (new ≡ f)
 accepted_written f b p old new u l t =
     let room : length old ≡ file_end (form_in f) (degree_in f) (length (basis_in f)) = l ∙ (accepted f p).whole ∙ ap (file_end (form_in f) (degree_in f)) (sym (length_basis f)) in
     let (e, w) = filed (writer_checks (form_in f) (modulus_in f) (basis_in f) (shift_in f) (word_in f) (proof_in f) (length old)) _ old new u (writer.writer_passes (form_in f) (modulus_in f) (basis_in f) (shift_in f) (word_in f) (proof_in f) (length old) (accepted_delivery f p) room) t in
@@ -108,11 +109,11 @@ unfolding shift_in
 form-one_unshifted f e = ap (λ (g : Form). shift_at g f) e
 
 module _ (f old new : List ℕ) where
-  -- An accepted file gets 14 exactly where its shift is not 0, whatever the output's length;
-  pub fourteen_exactly : Passes (file_checks f) → (u : Outcome) → Converted f old new u → (u ≡ Refused 14) ↔ (shift_in f ≡ 0 → ⊥)
+  -- An accepted file gets `Shifted`, number 14, exactly where its shift is not 0, whatever the output's length;
+  pub fourteen_exactly : Passes (file_checks f) → (u : Result (Unit {0}) Refusal) → Converted f old new u → (u ≡ Err Shifted) ↔ (shift_in f ≡ 0 → ⊥)
   fourteen_exactly p u t = (
     (λ e z. by (ℕ_discrete (length old) (converted_end f)) z (subst (Converted f old new) e t).0),
-    λ n. refused_by (convert_checks f (length old)) (converted f) old new u 14 (omega arith) (convert_refused f (length old) 14 (omega arith) (shift_refused f p n)) t,
+    λ n. refused_by (convert_checks f (length old)) (converted f) old new u Shifted (omega arith, convert_refused f (length old) 14 (omega arith) (shift_refused f p n)) t,
   )
     where
       by : Dec (length old ≡ converted_end f) → shift_in f ≡ 0 → Refuses (convert_checks f (length old)) 14 → ⊥
@@ -120,12 +121,10 @@ module _ (f old new : List ℕ) where
       by (no n) z (l, a) = absurd (omega (arith, answers_one (convert_checks f (length old)) a (convert_long f (length old) (shift_passes f p z) n)))
 
   -- An output of the length that the length call tells is not refused.
-  pub length_enough : (r : ConvertedLength) → LengthTold f r → r.refusal ≡ 0 → length old ≡ r.length → (u : Outcome) → Converted f old new u → u ≡ Written
-  length_enough r t z l u c =
-      let (p, e) = length_told f r t z in
-      (filed (convert_checks f (length old)) (converted f) old new u (convert_passes f (length old) p (l ∙ e)) c).0
+  pub length_enough : (n : ℕ) → LengthTold f (Ok n) → length old ≡ n → (u : Result (Unit {0}) Refusal) → Converted f old new u → u ≡ Ok tt
+  length_enough n (p, e) l u c = (filed (convert_checks f (length old)) (converted f) old new u (convert_passes f (length old) p (l ∙ e)) c).0
 
-  module _ (c : Converted f old new Written) where
+  module _ (c : Converted f old new (Ok tt)) where
     passed : Passes (file_checks f) × (shift_in f ≡ 0) × (length old ≡ converted_end f)
     passed = convert_passed f (length old) c.0
 
@@ -136,7 +135,7 @@ module _ (f old new : List ℕ) where
         (converted_accepted f passed.0, converted_gives f passed.0)
 
     -- There and back gives the first bytes, from either form.
-    pub converted-back : Below 256 f → (last final : List ℕ) (u : Outcome) → length last ≡ length f → Converted new last final u → (u ≡ Written) × (final ≡ f)
+    pub converted-back : Below 256 f → (last final : List ℕ) (u : Result (Unit {0}) Refusal) → length last ≡ length f → Converted new last final u → (u ≡ Ok tt) × (final ≡ f)
     converted-back b last final u l d =
         let first : converted new ≡ f = ap converted c.1 ∙ there_and_back f passed.0 b passed.1 in
         let room : length last ≡ converted_end new = l ∙ ap length (sym first) ∙ length_converted new converted_holds.0 in
@@ -144,7 +143,7 @@ module _ (f old new : List ℕ) where
         (e, w ∙ first)
 
     -- Both files get the same answer at each coin.
-    pub converted-answers : (coin : ℕ) (v : Verdict) → AnsweredFile f coin v ↔ AnsweredFile new coin v
+    pub converted-answers : (coin : ℕ) (v : Result Verdict Refusal) → AnsweredFile f coin v ↔ AnsweredFile new coin v
     converted-answers coin v =
         let (q, g) = converted_holds in (
           alike_files f new passed.0 q (sym g.modulus) (sym g.basis) coin (λ i. map (read_at (sym g.word i) (sym g.proof i)) (positions (dim (dim_in f)) coin)) v,

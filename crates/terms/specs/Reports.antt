@@ -1,9 +1,11 @@
 -- The printed sentences for the report over a stream of stored files. `Told s e` is the contract of report's `front` for its answer e on the
 -- stream s, `Next` that of `next`; `Reported s es t` says that es and t are the report on the stream s.
-use Rattle.std.specs.Prelude.{◌≡◌, ◌↔◌, Bool, List, [], ◌++◌, ℕ, ◌+◌, ◌-◌, ◌≤◌, ◌<◌, length, take, drop}
-use Rattle.std.proofs.Common.{sym, ap, ◌∙◌, inl, inr, arith}
+use Rattle.std.specs.Prelude.{◌≡◌, refl, ◌↔◌, Bool, Result, Ok, Err, List, [], ◌++◌, ℕ, ◌+◌, ◌-◌, ◌≤◌, ◌<◌, length, take, drop}
+use Rattle.std.proofs.Common.{sym, ap, ◌∙◌, inl, inr}
 use Rattle.lists.specs.Answers.{Passes, not_refused}
 use Rattle.lists.specs.Decides.{Decides}
+use Rattle.refusals.specs.declared.Refusal.{Refusal}
+use Rattle.refusals.specs.declared.Refusal.TheVariants.{NoRecord}
 use Rattle.stored.specs.File.{file_limit, modulus_in, basis_in, shift_in, word_in, proof_in}
 use Rattle.coins.specs.Answer.{swept_one}
 use Rattle.coins.specs.Totals as counter
@@ -27,7 +29,7 @@ use Rattle.terms.specs.Counts.{none_exactly}
 
 -- ---- one answer
 
-pub one_entry : (s : List ℕ) (d e : Entry) → Told s d → Told s e → d ≡ e
+pub one_entry : (s : List ℕ) (d e : Result Entry Refusal) → Told s d → Told s e → d ≡ e
 one_entry = one.one_entry
 
 pub one-start : (q r : Report) → q ≡ no_report → r ≡ no_report → q ≡ r
@@ -43,13 +45,13 @@ pub one-next : (s : List ℕ) (p q r : Report) → Next s p q → Next s p r →
 one-next = one.one-next
 
 -- The report on a stream is one, its entries and its total.
-pub one_report : (s : List ℕ) (ds es : List Entry) (t u : Total) → Reported s ds t → Reported s es u → (ds ≡ es) × (t ≡ u)
+pub one_report : (s : List ℕ) (ds es : List (Result Entry Refusal)) (t u : Total) → Reported s ds t → Reported s es u → (ds ≡ es) × (t ≡ u)
 one_report = one.one_report
 
 -- ---- the stream and the window
 
 -- The entry of the window is the entry of all that is left of the stream.
-pub window_told : (s : List ℕ) (e : Entry) → Told (window_on s) e ↔ Told s e
+pub window_told : (s : List ℕ) (e : Result Entry Refusal) → Told (window_on s) e ↔ Told s e
 window_told = laws.window_told
 
 -- Where n bytes of the stream s are held, those that come next make them the window.
@@ -61,39 +63,39 @@ pub window_slid : (s old new : List ℕ) (by end : ℕ) → by ≤ end → take 
 window_slid = window.window_slid
 
 -- The files of a stream, read through the window from the first on, give the report on the stream.
-pub steps_report : (s : List ℕ) (es : List Entry) (q : Report) → Steps (most_files + 1) s no_report es q → Reported s es q.total
+pub steps_report : (s : List ℕ) (es : List (Result Entry Refusal)) (q : Report) → Steps (most_files + 1) s no_report es q → Reported s es q.total
 steps_report = steps.steps_report
 
 -- Past as many files as are read, nothing that follows changes the report.
-pub past_the_last : (s u : List ℕ) (es : List Entry) (t : Total) → Reported s es t → t.files ≡ most_files → Reported (s ++ u) es t
+pub past_the_last : (s u : List ℕ) (es : List (Result Entry Refusal)) (t : Total) → Reported s es t → t.files ≡ most_files → Reported (s ++ u) es t
 past_the_last = following.past_the_last
 
 -- No bytes give no entries, and zeros for the total.
-pub no_files : (es : List Entry) (t : Total) → Reported [] es t → (es ≡ []) × (t ≡ record { files = 0; coins = 0; rejects = 0 })
+pub no_files : (es : List (Result Entry Refusal)) (t : Total) → Reported [] es t → (es ≡ []) × (t ≡ record { files = 0; coins = 0; rejects = 0 })
 unfolding total_of
 no_files es t (l, e) = (l, e ∙ ap total_of l)
 
--- Fewer than 7 bytes, one stray byte for one, get 11.
-pub too_short : (s : List ℕ) (e : Entry) → length s < 7 → Told s e → e.refusal ≡ 11
+-- Fewer than 7 bytes, one stray byte for one, get `NoRecord`, number 11.
+pub too_short : (s : List ℕ) (e : Result Entry Refusal) → length s < 7 → Told s e → e ≡ Err NoRecord
 too_short = following.too_short
 
 -- ---- an entry and the coin counter
 
 -- A file that the counter takes is accepted in a stream, whatever follows it: it is the file of its entry, and the next one begins where it ends.
-pub whatever_follows : (f t : List ℕ) (e : Entry) → Passes (count_checks f) → Told (f ++ t) e → (e.refusal ≡ 0) × (file_in (f ++ t) ≡ f) × (e.end ≡ length f)
-whatever_follows f t e p (inl (q, z, s, g)) = let (file, end) = following.following_file f t p in (z, file, g ∙ end)
-whatever_follows f t e p (inr (r, g)) = absurd (not_refused (entry_checks (f ++ t)) (following.following_passes f t p) r)
+pub whatever_follows : (f t : List ℕ) (r : Result Entry Refusal) → Passes (count_checks f) → Told (f ++ t) r → (e : Entry) × (r ≡ Ok e) × (file_in (f ++ t) ≡ f) × (e.end ≡ length f)
+whatever_follows f t (Ok e) p (q, (s, g)) = let (file, end) = following.following_file f t p in (e, refl, file, g ∙ end)
+whatever_follows f t (Err d) p r = absurd (not_refused (entry_checks (f ++ t)) (following.following_passes f t p) r)
 
 -- The entry of an accepted file has the counter's numbers of that file.
-pub entry_as_counted : (s : List ℕ) (e : Entry) (c : Counts) → Told s e → e.refusal ≡ 0 → counter.Told (file_in s) c
-    → (c.refusal ≡ 0) × (e.k ≡ c.k) × (e.coins ≡ c.coins) × (e.rejects ≡ c.rejects) × (e.most ≡ c.most)
-entry_as_counted s e c (inl (p, z, t, g)) h (inl (q, y, u)) = let (k, coins, rejects, most) = swept_one t u.swept in (y, k, coins, rejects, most)
-entry_as_counted s e c (inl (p, z, t, g)) h (inr (r, u)) = absurd (not_refused (count_checks (file_in s)) (laws.entry-counted s p) r)
-entry_as_counted s e c (inr ((l, a), g)) h u = absurd (omega arith)
+pub entry_as_counted : (s : List ℕ) (e : Entry) (r : Result Counts Refusal) → Told s (Ok e) → counter.Told (file_in s) r
+    → (c : Counts) × (r ≡ Ok c) × (e.sweep ≡ c.sweep)
+entry_as_counted s e (Ok c) (p, (t, g)) (q, u) =
+    let (k, coins, rejects, most) = swept_one t u.swept in
+    (c, refl, λ i. record { k = k i; coins = coins i; rejects = rejects i; most = most i })
+entry_as_counted s e (Err d) (p, (t, g)) r = absurd (not_refused (count_checks (file_in s)) (laws.entry-counted s p) r)
 
 -- No coin of its file rejects exactly where the file's word evaluates a polynomial of degree below an eighth of its length at the shifted
 -- elements, and its proof is the one laid out for it.
-pub no_rejects_reported : (s : List ℕ) (e : Entry) → Told s e → e.refusal ≡ 0
-    → (e.rejects ≡ 0) ↔ ProofAt (modulus_in (file_in s)) (basis_in (file_in s)) (shift_in (file_in s)) (word_in (file_in s)) (proof_in (file_in s))
-no_rejects_reported s e (inl (p, z, t, g)) h = none_exactly (file_in s) (laws.entry-file s p) e.rejects t.rejecting
-no_rejects_reported s e (inr ((l, a), g)) h = absurd (omega arith)
+pub no_rejects_reported : (s : List ℕ) (e : Entry) → Told s (Ok e)
+    → (e.sweep.rejects ≡ 0) ↔ ProofAt (modulus_in (file_in s)) (basis_in (file_in s)) (shift_in (file_in s)) (word_in (file_in s)) (proof_in (file_in s))
+no_rejects_reported s e (p, (t, g)) = none_exactly (file_in s) (laws.entry-file s p) e.sweep.rejects t.rejecting

@@ -1,6 +1,6 @@
 -- The scratch of a call: 7 exactly where it is too short, and any other answer is the same with more of it. Encoder, decoder and prover take
 -- scratch_for k symbols at dimension k, correction 16 × 2^k.
-use Rattle.std.specs.Prelude.{◌≡◌, refl, ◌⊎◌, ◌≢◌, ◌↔◌, List, [], ◌∷◌, ◌++◌, ℕ, ◌-◌, ◌*◌, ◌^◌, ◌≤◌, ◌<◌, length}
+use Rattle.std.specs.Prelude.{◌≡◌, refl, ◌⊎◌, ◌≢◌, ◌↔◌, Result, Ok, Err, List, [], ◌∷◌, ◌++◌, ℕ, ◌-◌, ◌*◌, ◌^◌, ◌≤◌, ◌<◌, length}
 use Rattle.std.proofs.Common.{inl, inr, arith}
 use Rattle.std.proofs.Math.Decide.{dec_lt}
 use Rattle.lists.specs.Alike.{Alike, alike_answers, alike_refl, alike_append}
@@ -8,6 +8,8 @@ use Rattle.lists.specs.Answers.{Checks, Answers, Refuses, answers-after, refused
 use Rattle.lists.specs.Calls.{zeros, RefusedWith, answer-second}
 use Rattle.lists.specs.Decides.{equal_stable}
 use Rattle.lists.specs.Lengths.{seven}
+use Rattle.refusals.specs.Refusal.{number}
+use Rattle.refusals.specs.declared.Refusal.{Refusal}
 use Rattle.field.specs.Symbols.{symbols}
 use Rattle.poly.specs.Shift.{word_at}
 use Rattle.space.specs.Setting.{setting_checks}
@@ -16,8 +18,6 @@ use Rattle.correction.specs.Calls.{near_checks, correct_checks}
 use Rattle.proximity.specs.Dim.{S}
 use Rattle.codec.specs.Scratch.{scratch_for}
 use Rattle.codec.specs.Calls.{symbol_checks, word_checks, encode_checks, decode_checks, Told, Encoded, CoefficientsAt, Decoded}
-use Rattle.codec.specs.declared.Outcome.{Outcome}
-use Rattle.codec.specs.declared.Outcome.TheVariants.{Done, Refused}
 use Rattle.prover.specs.Calls.{prove_checks, ProofAt, Proven}
 use Rattle.terms.specs.Agreement.{one-encoding, one-decoding, one-proving}
 use Rattle.terms.specs.Outcomes.{SameEnd}
@@ -63,12 +63,12 @@ module _ (cs ds : Checks) (alike : Alike cs ds) (Right : List ℕ → Type 0) (o
       by (yes h) = (zeros (length t), record { refuses = refuses; untouched = r.untouched; early = λ e. absurd (omega arith); late = λ e. refl })
       by (no h) = (t, record { refuses = refuses; untouched = r.untouched; early = λ e. refl; late = λ e. absurd (h e) })
 
-  told-other : (u : Outcome) → Told cs Right old new s left u → (l : List ℕ) × Told ds Right old new t l u
-  told-other Done a = (zeros (length t), record { passes = alike_answers cs ds alike 0 a.passes; right = a.right; cleared = refl })
-  told-other (Refused n) r = refused_other n r
+  told-other : (u : Result (Unit {0}) Refusal) → Told cs Right old new s left u → (l : List ℕ) × Told ds Right old new t l u
+  told-other (Ok x) a = (zeros (length t), record { passes = alike_answers cs ds alike 0 a.passes; right = a.right; cleared = refl })
+  told-other (Err e) r = refused_other (number e) r
 
   -- so it ends as a call that has t, where the calls that have t have one end
-  ends_as : (u v : Outcome) (next : List ℕ) {rest : List ℕ} → Told cs Right old new s left v → ((l : List ℕ) → Told ds Right old new t l v → SameEnd u v next new rest l)
+  ends_as : (u v : Result (Unit {0}) Refusal) (next : List ℕ) {rest : List ℕ} → Told cs Right old new s left v → ((l : List ℕ) → Told ds Right old new t l v → SameEnd u v next new rest l)
       → (u ≡ v) × (next ≡ new)
   ends_as u v next a one = let o = told-other v a in let r = one o.0 o.1 in (r.answer, r.output)
 
@@ -116,9 +116,9 @@ module _ (m : ℕ) (bs : List ℕ) (σ : ℕ) (given : List ℕ) where
     seven_correcting =
         seven_exactly m bs σ (length given) (2 ^ length bs) old (2 ^ length bs) (near_checks m bs σ given) (16 * 2 ^ length bs) s (past_seven 9 13 (omega arith) (omega arith))
 
-  -- With scratch that is enough each call ends, in outcome and output, as it does where it takes any other size and is lent that
+  -- With scratch that is enough each call ends, in answer and output, as it does where it takes any other size and is lent that
   -- much.
-  module _ (old new new' s left t left' : List ℕ) (u v : Outcome) (least : ℕ) (hs : scratch_for (length bs) ≤ length s) (ht : least ≤ length t) where
+  module _ (old new new' s left t left' : List ℕ) (u v : Result (Unit {0}) Refusal) (least : ℕ) (hs : scratch_for (length bs) ≤ length s) (ht : least ≤ length t) where
     pub encoding_as_with : Encoded m bs σ given old new s left u → Told (encoding (length old) least (length t)) (λ w. w ≡ word_at (symbols m) σ (length bs) bs given) old new' t left' v
         → (u ≡ v) × (new ≡ new')
     encoding_as_with e f =

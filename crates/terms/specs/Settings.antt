@@ -1,5 +1,5 @@
 -- Sound settings, and pairs that are accepted: the theorems of this crate are not about nothing.
-use Rattle.std.specs.Prelude.{◌≡◌, refl, List, [], ◌∷◌, ℕ, ◌^◌, ◌-◌, ◌≤◌, ◌<◌, T, length, get_or}
+use Rattle.std.specs.Prelude.{◌≡◌, refl, Ok, List, [], ◌∷◌, ℕ, ◌^◌, ◌-◌, ◌≤◌, ◌<◌, T, length, get_or}
 use Rattle.std.proofs.Common.{sym, ap, ◌∙◌, arith}
 use Rattle.lists.specs.All.{All, Below}
 use Rattle.lists.specs.Tables.{tab, get_or_tab, length_tab}
@@ -60,7 +60,7 @@ sound_283 σ h =
 -- In every sound setting each polynomial P of degree below n/8 has a pair that is accepted at every coin: its word at the shifted elements and
 -- the proof laid out for P(x + σ).
 pub accepted_pair : (m : ℕ) (bs : List ℕ) (σ : ℕ) → Sound m bs σ → (P : List ℕ) → length P ≡ 2 ^ (length bs - 3) → All (symbols m).Sym P → (coin : ℕ) → coin < 2 ^ R (length bs)
-    → (reads : ℕ) × Told m bs σ (word_at (symbols m) σ (length bs) bs P) (proof_of (symbols m) (dim (length bs)) bs (shift_p (symbols m) σ P)) coin (Accept reads)
+    → (reads : ℕ) × Told m bs σ (word_at (symbols m) σ (length bs) bs P) (proof_of (symbols m) (dim (length bs)) bs (shift_p (symbols m) σ P)) coin (Ok (Accept reads))
 accepted_pair m bs σ s P l e =
     (accepted_exactly m bs σ s _ _ (length_tab (2 ^ length bs) (λ i. eval (symbols m) P ((symbols m).◌⊕◌ σ (elem (symbols m) bs i))))
     (length_proof (symbols m) (length bs) bs (shift_p (symbols m) σ P))).1 (P, record { count = l; elements = e; word = refl; proof = refl })

@@ -1,13 +1,15 @@
 -- What does not depend on the shift, and how coefficients do. The codewords at one shift are those at any other, and with them a word's proof,
 -- its verdicts and its correction: past check 4 checker, prover and correction answer alike at two shifts, in each setting, sound or not.
 -- The coefficients of a word at one shift are those at another with the difference of the two put in.
-use Rattle.std.specs.Prelude.{◌≡◌, refl, ◌↔◌, List, [], ◌∷◌, ◌++◌, ℕ, ◌-◌, ◌^◌, ◌≤◌, ◌<◌, length}
+use Rattle.std.specs.Prelude.{◌≡◌, refl, ◌↔◌, Result, Ok, Err, List, [], ◌∷◌, ◌++◌, ℕ, ◌-◌, ◌^◌, ◌≤◌, ◌<◌, length}
 use Rattle.std.proofs.Common.{sym, ap, ◌∙◌, inl, inr, arith}
 use Rattle.lists.specs.All.{All, Below}
 use Rattle.lists.specs.Alike.{Alike, alike_answers, alike_refl, alike_append, iff_not}
 use Rattle.lists.specs.Answers.{Checks, Answers, Passes, answers-after, passes-each}
 use Rattle.lists.specs.Calls.{RefusedWith}
 use Rattle.lists.specs.Tables.{tab_ext}
+use Rattle.refusals.specs.Refusal.{number}
+use Rattle.refusals.specs.declared.Refusal.{Refusal}
 use Rattle.field.specs.Binary.{degree}
 use Rattle.field.specs.Calls.{modulus_numbered}
 use Rattle.field.specs.Checks.{modulus_checks, GoodModulus, good_passes}
@@ -25,9 +27,6 @@ use Rattle.correction.specs.Calls as correction
 use Rattle.correction.specs.Calls.{near_checks, correct_checks, CorrectedWord}
 use Rattle.correction.specs.Checks.{corrected_sound}
 use Rattle.correction.specs.Near.{NearAt, near_shift}
-use Rattle.correction.specs.declared.Correction.{Correction}
-use Rattle.correction.specs.declared.Correction.TheVariants as answer
-use Rattle.correction.specs.declared.Correction.TheVariants.{Corrected}
 use Rattle.proximity.specs.Dim.{dim}
 use Rattle.proximity.proofs.Shifted.{honest_shift}
 use Rattle.verifier.specs.Checker as checker
@@ -35,8 +34,6 @@ use Rattle.verifier.specs.Checker.{delivery_checks, read_checks, checker_checks}
 use Rattle.verifier.specs.Verdicts.{answered_alike}
 use Rattle.verifier.specs.declared.Verdict.{Verdict}
 use Rattle.codec.specs.Calls.{word_checks, Decoded}
-use Rattle.codec.specs.declared.Outcome.{Outcome}
-use Rattle.codec.specs.declared.Outcome.TheVariants.{Done, Refused}
 use Rattle.prover.specs.Calls as prover
 use Rattle.prover.specs.Calls.{prove_checks, ProofAt, ProofOf, Proven}
 use Rattle.prover.specs.Determined.{proof_shift}
@@ -99,7 +96,7 @@ module _ (m : ℕ) (bs : List ℕ) (σ τ : ℕ) (sσ : σ < 2 ^ degree m) (sτ 
     abbrev reading : Checks
     reading = read_checks K (length bs) w π coin
 
-    pub same_verdict : (v : Verdict) → checker.Told m bs σ w π coin v → checker.Told m bs τ w π coin v
+    pub same_verdict : (v : Result Verdict Refusal) → checker.Told m bs σ w π coin v → checker.Told m bs τ w π coin v
     same_verdict =
         answered_alike (checker_checks m bs σ w π coin) (checker_checks m bs τ w π coin)
         (alike_answers (checker_checks m bs σ w π coin) (checker_checks m bs τ w π coin)
@@ -148,14 +145,14 @@ module _ (m : ℕ) (bs : List ℕ) (σ τ : ℕ) (sσ : σ < 2 ^ degree m) (sτ 
     proving_alike : Alike (proving σ) (proving τ)
     proving_alike = alike_past (prover.length_checks (length bs) (length w) (length old) (length scratch)) (word_checks m bs σ w) (word_checks m bs τ w) (λ s. alike_words s w)
 
-    pub same-proving : (u : Outcome) → Proven m bs σ w old new scratch left u → Proven m bs τ w old new scratch left u
-    same-proving Done p =
+    pub same-proving : (u : Result (Unit {0}) Refusal) → Proven m bs σ w old new scratch left u → Proven m bs τ w old new scratch left u
+    same-proving (Ok x) p =
         record {
           passes = alike_answers (proving σ) (proving τ) proving_alike 0 p.passes;
           right = same-proof (past-setting (prover.length_checks (length bs) (length w) (length old) (length scratch) ++ word_checks m bs σ w) p.passes) w new p.right;
           cleared = p.cleared;
         }
-    same-proving (Refused n) r = refused_alike (proving σ) (proving τ) proving_alike n r
+    same-proving (Err e) r = refused_alike (proving σ) (proving τ) proving_alike (number e) r
 
     -- Correction gives the same answer and leaves the same output and scratch.
     abbrev correcting : ℕ → Checks
@@ -164,14 +161,14 @@ module _ (m : ℕ) (bs : List ℕ) (σ τ : ℕ) (sσ : σ < 2 ^ degree m) (sτ 
     correcting_alike : Alike (correcting σ) (correcting τ)
     correcting_alike = alike_past (correction.length_checks (length bs) (length w) (length old) (length scratch)) (near_checks m bs σ w) (near_checks m bs τ w) (λ s. alike_near s w)
 
-    pub same-correcting : (u : Correction) → CorrectedWord m bs σ w old new scratch left u → CorrectedWord m bs τ w old new scratch left u
-    same-correcting (Corrected n) d =
+    pub same-correcting : (u : Result ℕ Refusal) → CorrectedWord m bs σ w old new scratch left u → CorrectedWord m bs τ w old new scratch left u
+    same-correcting (Ok n) d =
         record {
           passes = alike_answers (correcting σ) (correcting τ) correcting_alike 0 d.passes;
           right = record { near = (near_both (corrected_sound m bs σ w old new scratch left n d) w new).0 d.right.near; count = d.right.count };
           cleared = d.cleared;
         }
-    same-correcting (answer.Refused n) r = refused_alike (correcting σ) (correcting τ) correcting_alike n r
+    same-correcting (Err e) r = refused_alike (correcting σ) (correcting τ) correcting_alike (number e) r
 
   -- ---- coefficients
 
@@ -187,7 +184,7 @@ module _ (m : ℕ) (bs : List ℕ) (σ τ : ℕ) (sσ : σ < 2 ^ degree m) (sτ 
     word_moved P = tab_ext (2 ^ length bs) _ _ (λ i h. sym (eval-shift_p (F s) (σ ⊕ τ) P (τ ⊕ elem K bs i) ∙ ap (eval K P) (between (elem K bs i))))
 
     -- So of one word: where the decoder gives P at σ, it gives P(x + σ + τ) at τ.
-    pub decoded_at-two : (w c p t t' d q v v' : List ℕ) → Decoded m bs σ w c p t t' Done → Decoded m bs τ w d q v v' Done → q ≡ shift_p K (σ ⊕ τ) p
+    pub decoded_at-two : (w c p t t' d q v v' : List ℕ) → Decoded m bs σ w c p t t' (Ok tt) → Decoded m bs τ w d q v v' (Ok tt) → q ≡ shift_p K (σ ⊕ τ) p
     decoded_at-two w c p t t' d q v v' a b =
         decode_unique_at (F s) τ sτ (length bs) bs s.basis q (shift_p K (σ ⊕ τ) p) b.right.count (length_shift_p K (σ ⊕ τ) p ∙ a.right.count)
         b.right.elements (shift_p_sym (F s) (σ ⊕ τ) p ((F s).sym_sum sσ sτ) a.right.elements) (sym b.right.word-is ∙ a.right.word-is ∙ word_moved p)

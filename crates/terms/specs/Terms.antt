@@ -3,10 +3,11 @@
 -- other calls: Agreement.antt; the degree behind a reject: Degrees.antt; what does not depend on the shift: Shifts.antt; stored files and the call from C: Files.antt; the coin
 -- counter: Counts.antt; from coefficients to a stored file: Deliveries.antt. The unused bits of a coin: UnusedBits.antt. That there are
 -- sound settings and accepted pairs: Settings.antt.
-use Rattle.std.specs.Prelude.{◌≡◌, refl, ◌⊎◌, ◌↔◌, List, ◌++◌, map, ℕ, ◌^◌, ◌≤◌, ◌<◌, length}
+use Rattle.std.specs.Prelude.{◌≡◌, refl, ◌⊎◌, ◌↔◌, Result, Ok, List, ◌++◌, map, ℕ, ◌^◌, ◌≤◌, ◌<◌, length}
 use Rattle.std.proofs.Common.{◌∙◌, subst, inl, inr, arith}
 use Rattle.lists.specs.All.{All}
 use Rattle.lists.specs.Answers.{Passes, answers-after}
+use Rattle.refusals.specs.declared.Refusal.{Refusal}
 use Rattle.lists.specs.Calls.{zeros}
 use Rattle.field.specs.Symbols.{symbols}
 use Rattle.space.specs.Setting.{setting_checks}
@@ -26,8 +27,6 @@ use Rattle.verifier.specs.declared.Verdict.{Verdict}
 use Rattle.verifier.specs.declared.Verdict.TheVariants.{Accept, Reject}
 use Rattle.codec.specs.Calls.{word_checks}
 use Rattle.codec.specs.RoundTrip.{word-passes}
-use Rattle.codec.specs.declared.Outcome.{Outcome}
-use Rattle.codec.specs.declared.Outcome.TheVariants.{Done}
 use Rattle.prover.specs.Calls.{length_checks, Proven}
 use Rattle.lists.specs.Lengths.{lengths-right}
 use Rattle.codec.specs.Scratch.{scratch_for}
@@ -37,14 +36,14 @@ use Rattle.terms.specs.Answer.{answered-one, same_answer}
 -- ---- the checker
 
 -- The call gives one answer.
-pub one_answer : (m : ℕ) (bs : List ℕ) (σ : ℕ) (w π : List ℕ) (coin : ℕ) (u v : Verdict) → Told m bs σ w π coin u → Told m bs σ w π coin v → u ≡ v
+pub one_answer : (m : ℕ) (bs : List ℕ) (σ : ℕ) (w π : List ℕ) (coin : ℕ) (u v : Result Verdict Refusal) → Told m bs σ w π coin u → Told m bs σ w π coin v → u ≡ v
 one_answer m bs σ w π coin = answered-one (checker_checks m bs σ w π coin) (symbols m) (length bs) bs w π coin
 
 -- A setting (modulus, basis, shift) is sound when it passes checks 1 to 5 (`Sound`); the right lengths are 2^k and S(k), k being the basis's length.
 module _ (m : ℕ) (bs : List ℕ) (σ : ℕ) (s : Sound m bs σ) (w π : List ℕ) (lw : length w ≡ 2 ^ length bs) (lπ : length π ≡ S (length bs)) where
   -- the checker's answer is accept at every coin below 2^R; refusal 9 is no acceptance
   abbrev pub AcceptedAtAllCoins : Type 0
-  AcceptedAtAllCoins = (coin : ℕ) → coin < 2 ^ R (length bs) → (reads : ℕ) × Told m bs σ w π coin (Accept reads)
+  AcceptedAtAllCoins = (coin : ℕ) → coin < 2 ^ R (length bs) → (reads : ℕ) × Told m bs σ w π coin (Ok (Accept reads))
 
   -- the word evaluates a polynomial P of degree below an eighth of its length at the shifted elements, and the proof is the one laid out for P(x + σ)
   abbrev pub PairOfAPolynomial : Type 0
@@ -64,17 +63,17 @@ module _ (m : ℕ) (bs : List ℕ) (σ : ℕ) (s : Sound m bs σ) (w π : List �
       read-at-all : ((coin : ℕ) → coin < 2 ^ R (length bs) → All (symbols m).Sym (symbols_at (length bs) w π coin) × Accepts (symbols m) (dim (length bs)) bs w π coin) ↔ ((P : List ℕ) × Honest (symbols m) (dim (length bs)) bs w π P)
       read-at-all = all_coins_read (sound_field s) (dim (length bs)) bs w π s.basis lw lπ
 
-      told_accept : (coin : ℕ) {reads : ℕ} → Told m bs σ w π coin (Accept reads) → All (symbols m).Sym (symbols_at (length bs) w π coin) × Accepts (symbols m) (dim (length bs)) bs w π coin
-      told_accept coin (p, e, a) = (accepted_sym (sound_field s) (dim (length bs)) bs w π s.basis lw lπ coin a, a)
+      told_accept : (coin : ℕ) {reads : ℕ} → Told m bs σ w π coin (Ok (Accept reads)) → All (symbols m).Sym (symbols_at (length bs) w π coin) × Accepts (symbols m) (dim (length bs)) bs w π coin
+      told_accept coin (p, (e, a)) = (accepted_sym (sound_field s) (dim (length bs)) bs w π s.basis lw lπ coin a, a)
 
       accept_told : (coin : ℕ) → coin < 2 ^ R (length bs) → All (symbols m).Sym (symbols_at (length bs) w π coin) × Accepts (symbols m) (dim (length bs)) bs w π coin
-          → Told m bs σ w π coin (Accept (reads_of (length bs) coin))
+          → Told m bs σ w π coin (Ok (Accept (reads_of (length bs) coin)))
       accept_told coin h (r, a) =
-          told_coin m bs σ w π coin (sound_passes m bs σ s) (delivery-passes (length bs) (length w) (length π) coin lw lπ h) (Accept (reads_of (length bs) coin)) (inr ((λ f. f r), refl), refl, a)
+          told_coin m bs σ w π coin (sound_passes m bs σ s) (delivery-passes (length bs) (length w) (length π) coin lw lπ h) (Ok (Accept (reads_of (length bs) coin))) (inr ((λ f. f r), refl), (refl, a))
 
   -- What the prover writes for the word, into any lent proof and scratch of the right lengths: it is done, and leaves π.
   abbrev pub WrittenByTheProver : List ℕ → List ℕ → Type 0
-  WrittenByTheProver old scratch = Proven m bs σ w old π scratch (zeros (length scratch)) Done
+  WrittenByTheProver old scratch = Proven m bs σ w old π scratch (zeros (length scratch)) (Ok tt)
 
   -- Sentence 3, first part, of the two calls: the pairs accepted at all coins are those that the prover leaves; it leaves no other (`one-proving`).
   pub accepted_exactly_written : (old scratch : List ℕ) → length old ≡ S (length bs) → scratch_for (length bs) ≤ length scratch → AcceptedAtAllCoins ↔ WrittenByTheProver old scratch
@@ -95,11 +94,11 @@ module _ (m : ℕ) (bs : List ℕ) (σ : ℕ) (s : Sound m bs σ) (w π : List �
 
   -- However the prover's call on the word ends (its answer u, the proof and the scratch that it leaves): the pair is accepted at all coins
   -- exactly where that call is done and has left this proof.
-  pub accepted_exactly_proven : (old new scratch left : List ℕ) (u : Outcome) → length old ≡ S (length bs) → scratch_for (length bs) ≤ length scratch
-      → Proven m bs σ w old new scratch left u → AcceptedAtAllCoins ↔ ((u ≡ Done) × (new ≡ π))
+  pub accepted_exactly_proven : (old new scratch left : List ℕ) (u : Result (Unit {0}) Refusal) → length old ≡ S (length bs) → scratch_for (length bs) ≤ length scratch
+      → Proven m bs σ w old new scratch left u → AcceptedAtAllCoins ↔ ((u ≡ Ok tt) × (new ≡ π))
   accepted_exactly_proven old new scratch left u lo ls p = (
-    (λ f. let e = one-proving m bs σ w old new π scratch left (zeros (length scratch)) u Done p ((accepted_exactly_written old scratch lo ls).0 f) in (e.answer, e.output)),
-    λ (d, e). accepted_exactly.1 (subst (λ (x : List ℕ). Proven m bs σ w old x scratch left Done) e (subst (Proven m bs σ w old new scratch left) d p)).right,
+    (λ f. let e = one-proving m bs σ w old new π scratch left (zeros (length scratch)) u (Ok tt) p ((accepted_exactly_written old scratch lo ls).0 f) in (e.answer, e.output)),
+    λ (d, e). accepted_exactly.1 (subst (λ (x : List ℕ). Proven m bs σ w old x scratch left (Ok tt)) e (subst (Proven m bs σ w old new scratch left) d p)).right,
   )
 
 -- Sentence 3, second part: a coin's positions follow from k and the coin alone (`positions`), they are at most 64,
@@ -107,12 +106,12 @@ pub at-most_64_reads : (k coin : ℕ) → length (positions (dim k) coin) ≤ 64
 at-most_64_reads k coin = few_reads (dim k) coin
 
 -- and the number that comes with a verdict, accept or reject, is theirs.
-pub reads_told : (m : ℕ) (bs : List ℕ) (σ : ℕ) (w π : List ℕ) (coin n : ℕ) → Told m bs σ w π coin (Accept n) ⊎ ((r : Rejection) × Told m bs σ w π coin (Reject r) × (n ≡ r.reads)) → n ≡ length (positions (dim (length bs)) coin)
-reads_told m bs σ w π coin n (inl (p, e, a)) = e
-reads_told m bs σ w π coin n (inr (r, (p, e, a, g, d), h)) = h ∙ e
+pub reads_told : (m : ℕ) (bs : List ℕ) (σ : ℕ) (w π : List ℕ) (coin n : ℕ) → Told m bs σ w π coin (Ok (Accept n)) ⊎ ((r : Rejection) × Told m bs σ w π coin (Ok (Reject r)) × (n ≡ r.reads)) → n ≡ length (positions (dim (length bs)) coin)
+reads_told m bs σ w π coin n (inl (p, (e, a))) = e
+reads_told m bs σ w π coin n (inr (r, (p, (e, a, g, d)), h)) = h ∙ e
 
 -- Two deliveries of the right lengths alike at these positions get the same answer at that coin, a refusal and the degree behind a reject included.
 pub alike_at_the_positions : (m : ℕ) (bs : List ℕ) (σ : ℕ) (w π v ρ : List ℕ) (coin : ℕ) → length w ≡ 2 ^ length bs → length π ≡ S (length bs) → length v ≡ 2 ^ length bs → length ρ ≡ S (length bs)
     → map (read_at w π) (positions (dim (length bs)) coin) ≡ map (read_at v ρ) (positions (dim (length bs)) coin)
-    → (answer : Verdict) → Told m bs σ w π coin answer → Told m bs σ v ρ coin answer
+    → (answer : Result Verdict Refusal) → Told m bs σ w π coin answer → Told m bs σ v ρ coin answer
 alike_at_the_positions = same_answer
