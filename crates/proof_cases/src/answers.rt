@@ -1,39 +1,39 @@
 // What came of the calls, as text.
-use codec::Outcome;
+use refusals::Refusal;
 use std::fmt;
 use verifier::Verdict;
 
 // Of the checker.
 #[derive(Clone, Copy)]
-pub struct Checked(pub Verdict);
+pub struct Checked(pub Result<Verdict, Refusal>);
 
 impl fmt::Display for Checked {
     fn fmt<W: fmt::Write>(&self, f: &mut fmt::Formatter<W>) -> fmt::Result {
         match self.0 {
-            Verdict::Accept(n) => write!(f, "accepted, reads {n}"),
-            Verdict::Reject(r) => write!(
+            Ok(Verdict::Accept(n)) => write!(f, "accepted, reads {n}"),
+            Ok(Verdict::Reject(r)) => write!(
                 f,
                 "rejected, reads {}, degree {} of {} dimensions",
                 r.reads, r.degree, r.dimension
             ),
-            Verdict::Refused(n) => write!(f, "refused {n}"),
+            Err(e) => write!(f, "{e}"),
         }
     }
 }
 
-pub fn is_accepted(v: Verdict) -> bool {
-    matches!(v, Verdict::Accept(_))
+pub fn is_accepted(v: Result<Verdict, Refusal>) -> bool {
+    matches!(v, Ok(Verdict::Accept(_)))
 }
 
 // Of the encoder and the prover.
 #[derive(Clone, Copy)]
-pub struct Made(pub Outcome);
+pub struct Made(pub Result<(), Refusal>);
 
 impl fmt::Display for Made {
     fn fmt<W: fmt::Write>(&self, f: &mut fmt::Formatter<W>) -> fmt::Result {
         match self.0 {
-            Outcome::Done => write!(f, "done"),
-            Outcome::Refused(n) => write!(f, "refused {n}"),
+            Ok(()) => write!(f, "done"),
+            Err(e) => write!(f, "{e}"),
         }
     }
 }
