@@ -1,5 +1,5 @@
 // The calls on stored files.
-ghost use Rattle.std.specs.Prelude.{◌≡◌, ◌+◌, ◌^◌, get_or};
+ghost use Rattle.std.specs.Prelude.{◌≡◌, Result, ℕ, ◌^◌};
 ghost use Rattle.coins.specs.Totals as totals;
 ghost use Rattle.report.specs.Entry as entries;
 ghost use Rattle.delivery.specs.Message as making;
@@ -107,7 +107,7 @@ pub extern "C" fn proximity_entry(bytes: &[u8], which: u32) -> u64
 
 // A byte of a part, and 256 past its end; where the file is refused, 256 and the number.
 fn byte_at(part: Result<&[u8], Refusal>, at: u64) -> u32
-    ensures { result ≡ byte_of part at }
+    ensures { result ≡ byte_of part.entry at }
 {
     match part {
         Ok(bytes) => {

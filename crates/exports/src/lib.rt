@@ -5,7 +5,7 @@
 mod files;
 mod places;
 
-ghost use Rattle.std.specs.Prelude.{◌≡◌, ℕ};
+ghost use Rattle.std.specs.Prelude.{◌≡◌, Result, ℕ};
 ghost use Rattle.field.specs.Binary.{◌⊕◌, product};
 ghost use Rattle.field.specs.Calls.{field_checks, Told};
 ghost use Rattle.codec.specs.Calls.{Encoded, Decoded};

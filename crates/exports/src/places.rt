@@ -1,5 +1,5 @@
 // What the readers of a stored file hand back.
-ghost use Rattle.std.specs.Prelude.{◌≡◌};
+ghost use Rattle.std.specs.Prelude.{◌≡◌, Result};
 ghost use Rattle.stored.specs.Reader.{prefix_checks, file_checks, Told};
 ghost use Rattle.refusals.specs.declared.Refusal.{Refusal};
 ghost use Rattle.exports.specs.Places.{form_code, symbol_bytes, refused_place, place_of};
