@@ -4,54 +4,66 @@
 // zeros in the scratch, held to the file stdout. Outputs come in as nines, the scratch as sevens.
 #![tactic(auto)]
 
-mod case;
 mod largest;
+mod lines;
+mod text;
 
-use anyhow::Result;
-use case::Case;
-use case_lines::{Symbols, zeros};
+use lines::{cleared, numbers, outcome};
 use refusals::Refusal;
-use std::alloc::Global;
-use std::fmt;
+use streams::STDIN_FILENO;
+use text::{at_most, decimal, list, part, place};
 
-// What came of a call, beside its output.
-#[derive(Clone, Copy)]
-struct Answer(Result<(), Refusal>);
+// ---- the cases of the file stdin
 
-impl fmt::Display for Answer {
-    fn fmt<W: fmt::Write>(&self, f: &mut fmt::Formatter<W>) -> fmt::Result {
-        match self.0 {
-            Ok(()) => write!(f, "done"),
-            Err(e) => write!(f, "{e}"),
-        }
+fn show(label: &[u8], r: Result<(), Refusal>, out: &[u16], scratch: &[u16]) {
+    outcome(label, r);
+    numbers(out);
+    cleared(scratch);
+}
+
+fn call(line: &[u8], basis: &[u16], given: &[u16], out: &mut [u16], scratch: &mut [u16]) {
+    let modulus = decimal(part(line, 2));
+    let shift = (decimal(part(line, 4)) % 65536) as u16;
+    if decimal(part(line, 1)) == 0 {
+        let r = codec::encode(modulus, basis, shift, given, out, scratch);
+        show(part(line, 0), r, out, scratch);
+    } else {
+        let r = codec::decode(modulus, basis, shift, given, out, scratch);
+        show(part(line, 0), r, out, scratch);
     }
 }
 
-fn call(case: &Case, out: &mut [u16], scratch: &mut [u16]) -> Answer {
-    let modulus = case.modulus;
-    let shift = case.shift;
-    if case.decodes {
-        return Answer(codec::decode(modulus, &case.basis, shift, &case.given, out, scratch));
-    }
-    Answer(codec::encode(modulus, &case.basis, shift, &case.given, out, scratch))
+// With what is lent: the output and the scratch, in the lengths that the case gives.
+fn lent(line: &[u8], basis: &[u16], given: &[u16]) {
+    let mut out = [9u16; 64];
+    let mut scratch = [7u16; 256];
+    let n = at_most(&out, decimal(part(line, 6)) as usize);
+    let room = at_most(&scratch, decimal(part(line, 7)) as usize);
+    call(line, basis, given, &mut out[..n], &mut scratch[..room]);
 }
 
-fn show(rt: &impl Print, alloc: Global, case: &Case) -> Result<()> {
-    let mut out = vec![in alloc; 9u16; case.output]?;
-    let mut scratch = vec![in alloc; 7u16; case.scratch]?;
-    let answer = call(case, &mut out, &mut scratch);
-    let label = case.label.as_str();
-    let symbols = Symbols(&out);
-    println!(rt; "{label}: {answer},{symbols}, zeros {}", zeros(&scratch))?;
-    Ok(())
+fn case(line: &[u8]) {
+    let mut basis = [0u16; 16];
+    let mut given = [0u16; 64];
+    let k = list(part(line, 3), &mut basis);
+    let n = list(part(line, 5), &mut given);
+    lent(line, &basis[..k], &given[..n]);
 }
 
-fn main(rt: HostRuntime) -> Result<()> {
-    let alloc = rt.alloc();
-    for line in rt.lines(alloc) {
-        let line = line?;
-        let case = case::read(alloc, line.as_str())?;
-        show(&rt, alloc, &case)?;
+// One case after the other; each has eight marks, so that where it ends the next one begins: no index
+// of a list.
+fn cases(text: &[u8]) {
+    let mut at = 0;
+    while at < text.len() {
+        let rest = &text[at..];
+        case(rest);
+        at += 1 + place(rest, 8);
     }
-    largest::largest(&rt, alloc)
+}
+
+fn main() {
+    let mut text = io::buffer();
+    let n = io::read_full(STDIN_FILENO, &mut text);
+    cases(&text[..n]);
+    largest::largest();
 }

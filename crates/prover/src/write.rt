@@ -54,8 +54,7 @@ pub fn prove_in(
     }
     rows::fill_rows(f, images, k, word, proof, work);
     let count = deep_lines(k);
-    let mut i = 0;
-    while i < count {
+    for i in 0..count {
         let line = line_at(k, i);
         let inner = words::line_word(k, line, word, proof);
         let table = spaces::line_images(images, k, line);
@@ -64,6 +63,5 @@ pub fn prove_in(
         let at = lines::line_proof_at(k, line);
         let end = lines::line_proof_end(k, line);
         prove_in(f, m, &table, &inner[..n], &mut proof[at..end], work);
-        i += 1;
     }
 }

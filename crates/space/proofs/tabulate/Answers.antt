@@ -70,8 +70,8 @@ inverse-requires c = let at = (goal.at.inverse-requires c).After-fill_row-s in
 pub loop-i-preserved : goal.loop-i-preserved
 loop-i-preserved c = let at = (goal.at.loop-i-preserved c).After-fill_row-s in
     let here = head at in
-      λ irr' few' sb'. so_far-next (m here) irr' (bs here) few' sb' (here.loop-i.invariant irr' few' sb') (inside at) (λ z. c.if-s-eq0.false (found at ∙ z)) _ at.fill_row-s.ensures.1
-          at.fill_row-s.result c.inverse.result (found at) c.inverse.ensures
+    λ irr' few' sb'. so_far-next (m here) irr' (bs here) few' sb' (here.loop-i.invariant irr' few' sb') (inside at) (λ z. c.if-s-eq0.false (found at ∙ z)) _ at.fill_row-s.ensures.1
+    at.fill_row-s.result c.inverse.result (found at) c.inverse.ensures
 
 pub returns : goal.returns
 returns c = let here = (goal.at.returns c).At-loop-i in

@@ -1,4 +1,4 @@
-use mathlib.Core.Path.{◌≡◌, refl, sym, ◌∙◌, subst}
+use mathlib.Core.Path.{◌≡◌, sym, ◌∙◌, subst}
 use Prim.Native.Nat.{ℕ, ◌-◌, ◌*◌, ◌%◌, ◌^◌, ◌≤◌, ◌<◌}
 use native.Mathlib.Omega.{arith}
 use lib.ListN.{length, take, drop}
@@ -30,21 +30,16 @@ fill_rows-requires t c =
 pub loop-i-init : goal.loop-i-init
 loop-i-init t c =
     let a = c.args in
-    let p = c.requires in (
-      omega arith,
-      c.deep_lines-count.ensures.0,
-      c.deep_lines-count.ensures.1,
-      refl,
-      progress_none a.f.modulus p.0.irreducible a.k (omega arith) p.0.high a.images.now a.word.now c.fill_rows.new.proof (c.fill_rows.auto.proof ∙ p.1) c.fill_rows.ensures,
-    )
+    let p = c.requires in
+    progress_none a.f.modulus p.0.irreducible a.k (omega arith) p.0.high a.images.now a.word.now c.fill_rows.new.proof (c.fill_rows.auto.proof ∙ p.1) c.fill_rows.ensures
 
 -- a line is chosen
 module _ (t : ℕ) (c : goal.After-line_at-line t) where
   in_range : InRange c.args.k c.line_at-line.result
   in_range =
       let a = c.args in
-      line_in_range a.f a.k a.images.now a.word.now c.requires.0 (omega arith) c.deep_lines-count.result c.loop-i.i c.loop-i.invariant.1 c.loop-i-test.true
-      c.loop-i.proof c.loop-i.invariant.4 c.line_at-line.result c.line_at-line.ensures
+      line_in_range a.f a.k a.images.now a.word.now c.requires.0 (omega arith) c.deep_lines-count.result c.loop-i.i c.deep_lines-count.ensures.0 c.loop-i-test.true
+      c.loop-i.proof c.loop-i.invariant c.line_at-line.result c.line_at-line.ensures
 
 pub line_word-inner-requires : goal.line_word-inner-requires
 line_word-inner-requires t c =
@@ -53,7 +48,7 @@ line_word-inner-requires t c =
       omega arith,
       p.0.high,
       (code_word a.f a.k a.images.now a.word.now p.0).0,
-      omega (arith, c.loop-i.invariant.4.long, S_node a.k (omega arith)),
+      omega (arith, c.loop-i.invariant.long, S_node a.k (omega arith)),
       in_range t (goal.at.line_word-inner-requires t c).After-line_at-line,
     )
 
@@ -79,8 +74,8 @@ module _ (t : ℕ) (c : goal.After-line_proof_end-end t) where
       × (length (take (c.line_proof_end-end.result - c.line_proof_at-at.result) (drop c.line_proof_at-at.result c.loop-i.proof)) ≡ S m)
   facts =
       let a = c.args in
-      line_facts a.f a.k a.images.now a.word.now c.requires.0 large-k c.deep_lines-count.result c.loop-i.i c.loop-i.invariant.1 c.loop-i-test.true
-      c.loop-i.proof c.loop-i.invariant.4 c.line_at-line.result c.line_at-line.ensures m size c.line_proof_at-at.result c.line_proof_end-end.result c.line_dimension-m.ensures size_is
+      line_facts a.f a.k a.images.now a.word.now c.requires.0 large-k c.deep_lines-count.result c.loop-i.i c.deep_lines-count.ensures.0 c.loop-i-test.true
+      c.loop-i.proof c.loop-i.invariant c.line_at-line.result c.line_at-line.ensures m size c.line_proof_at-at.result c.line_proof_end-end.result c.line_dimension-m.ensures size_is
       c.line_proof_at-at.ensures c.line_proof_end-end.ensures c.line_word-inner.result c.line_images-table.result c.line_word-inner.ensures c.line_images-table.ensures
 
 pub slice_bounds-inner-end : goal.slice_bounds-inner-end
@@ -94,10 +89,7 @@ slice_bounds-prove_in-end t c =
 pub offset_bounds-proof-at : goal.offset_bounds-proof-at
 offset_bounds-proof-at t c =
     let e = (goal.at.offset_bounds-proof-at t c).After-line_proof_end-end in
-    omega (arith, (facts t e).1.0, (facts t e).1.1, c.loop-i.invariant.4.long, S-small c.args.k (omega (arith, c.requires.0.high)))
-
-pub slice_bounds-prove_in-start : goal.slice_bounds-prove_in-start
-slice_bounds-prove_in-start t c = (facts t (goal.at.slice_bounds-prove_in-start t c).After-line_proof_end-end).1.0
+    omega (arith, (facts t e).1.0, (facts t e).1.1, c.loop-i.invariant.long, S-small c.args.k (omega (arith, c.requires.0.high)))
 
 pub slice_bounds-prove_in-end-in-loop-i : goal.slice_bounds-prove_in-end-in-loop-i
 slice_bounds-prove_in-end-in-loop-i t c = (facts t (goal.at.slice_bounds-prove_in-end-in-loop-i t c).After-line_proof_end-end).1.1
@@ -110,23 +102,18 @@ prove_in-requires t c =
       (
         (facts t e).2,
         (facts t e).3,
-        omega (arith, pow_mono {i = m t e} {j = a.k} (omega (arith, low t e)), c.loop-i.invariant.3, c.fill_rows.auto.work, c.requires.2),
+        omega (arith, pow_mono {i = m t e} {j = a.k} (omega (arith, low t e)), c.loop-i.auto.work, c.fill_rows.auto.work, c.requires.2),
       ),
     )
 
 pub loop-i-preserved : goal.loop-i-preserved
 loop-i-preserved t c =
     let e = (goal.at.loop-i-preserved t c).After-line_proof_end-end in
-    let a = c.args in (
-      omega (arith, c.loop-i-test.true),
-      c.loop-i.invariant.1,
-      c.loop-i.invariant.2,
-      c.prove_in.auto.work ∙ c.loop-i.invariant.3,
-      progress_turn a.f a.k a.images.now a.word.now c.requires.0 (large-k t e) c.deep_lines-count.result c.loop-i.i c.loop-i.invariant.1 c.loop-i-test.true
-          c.loop-i.proof c.loop-i.invariant.4 c.line_at-line.result c.line_at-line.ensures (m t e) (size t e) c.line_proof_at-at.result c.line_proof_end-end.result c.line_dimension-m.ensures (size_is t e)
-          c.line_proof_at-at.ensures c.line_proof_end-end.ensures c.line_word-inner.result c.line_images-table.result c.line_word-inner.ensures c.line_images-table.ensures
-          c.prove_in.new.proof c.prove_in.auto.proof c.prove_in.ensures,
-    )
+    let a = c.args in
+    progress_turn a.f a.k a.images.now a.word.now c.requires.0 (large-k t e) c.deep_lines-count.result c.loop-i.i c.deep_lines-count.ensures.0 c.loop-i-test.true
+    c.loop-i.proof c.loop-i.invariant c.line_at-line.result c.line_at-line.ensures (m t e) (size t e) c.line_proof_at-at.result c.line_proof_end-end.result c.line_dimension-m.ensures (size_is t e)
+    c.line_proof_at-at.ensures c.line_proof_end-end.ensures c.line_word-inner.result c.line_images-table.result c.line_word-inner.ensures c.line_images-table.ensures
+    c.prove_in.new.proof c.prove_in.auto.proof c.prove_in.ensures
 
 pub returns : goal.returns
 returns t c =
@@ -134,5 +121,5 @@ returns t c =
     let a = c.args in
     let p = c.requires.0 in
     let last : l.i ≡ c.deep_lines-count.result = omega arith in
-    progress_all a.f.modulus p.irreducible a.k (omega arith) p.high a.images.now a.word.now c.deep_lines-count.result l.invariant.1 l.proof
-    (subst (λ (i : ℕ). Progress a.f.modulus a.k a.images.now a.word.now i l.proof) last l.invariant.4)
+    progress_all a.f.modulus p.irreducible a.k (omega arith) p.high a.images.now a.word.now c.deep_lines-count.result c.deep_lines-count.ensures.0 l.proof
+    (subst (λ (i : ℕ). Progress a.f.modulus a.k a.images.now a.word.now i l.proof) last l.invariant)
