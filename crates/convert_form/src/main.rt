@@ -5,6 +5,7 @@
 ghost use Rattle.std.specs.Prelude.{◌≡◌, ◌+◌, ◌≤◌, length};
 ghost use Rattle.stored.specs.File.{file_limit};
 
+use refusals::Refusal;
 use stored::FILE_LIMIT;
 use streams::{STDERR_FILENO, STDIN_FILENO, STDOUT_FILENO};
 
@@ -27,34 +28,34 @@ fn written(file: &[u8]) {
     }
 }
 
-fn refused(number: u8) {
+fn refused(e: Refusal) {
     io::write_all(STDERR_FILENO, b"refused ");
-    io::print_decimal(STDERR_FILENO, number as u64);
+    io::print_decimal(STDERR_FILENO, u8::from(e) as u64);
     io::write_all(STDERR_FILENO, b"\n");
 }
 
 // The other form of a file within the limit is within the limit, too.
-fn converted(file: &[u8])
+fn converted(file: &[u8]) -> Result<(), Refusal>
     requires { length file.now ≤ file_limit }
 {
-    let found = filing::converted_length(file);
-    let number = found.refusal;
-    let n = found.length;
-    if number != 0 {
-        refused(number);
-        return;
-    }
+    let n = filing::converted_length(file)?;
     let mut out = room();
-    filing::convert(file, &mut out[..n]);
+    filing::convert(file, &mut out[..n])?;
     written(&out[..n]);
+    Ok(())
 }
 
-fn main() {
+fn run() -> Result<(), Refusal> {
     let mut file = input();
     let n = io::read_full(STDIN_FILENO, &mut file);
     if FILE_LIMIT < n {
-        refused(6);
-        return;
+        return Err(Refusal::Length);
     }
-    converted(&file[..n]);
+    converted(&file[..n])
+}
+
+fn main() {
+    if let Err(e) = run() {
+        refused(e);
+    }
 }

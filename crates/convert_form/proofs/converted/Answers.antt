@@ -5,36 +5,29 @@ use Prim.Native.Nat.{ℕ, ◌≤◌}
 use native.Mathlib.Omega.{arith}
 use lib.ListN.{length, take, drop, length-append}
 use lib.Seq.{length-take-le}
-use Rattle.filing.specs.ConvertLaws.{converted-short, shift_passed, length_told}
-use borrow.Author.Rules.{rules}
-use Rattle.convert_form.proofs.converted.Goals.{Start, After-converted_length-found, After-room-out, After-convert}
+use Rattle.filing.specs.ConvertLaws.{converted-short, shift_passed}
+use Rattle.convert_form.proofs.converted.Goals.{After-room-out, After-convert}
 use Rattle.convert_form.proofs.converted.Goals as goal
 
 -- the other form is within the limit
 module _ (c : goal.After-room-out) where
-  abbrev start : goal.Start
-  start = (goal.at.After-room-out c).Start
-
-  abbrev found : goal.After-converted_length-found
-  found = (goal.at.After-room-out c).After-converted_length-found
-
   abbrev n : ℕ
-  n = found.converted_length-found.result.length
+  n = c.in_ok-n.n
 
   abbrev zeros : List ℕ
   zeros = c.room-out.result
 
   fits : n ≤ length zeros
   fits =
-      let f = start.args.file.now in
-      let t = length_told f found.converted_length-found.result found.converted_length-found.ensures c.if-number-ne0.false in
-      omega (arith, t.1, converted-short f (shift_passed f t.0).0 start.requires, c.room-out.ensures)
+      let f = c.args.file.now in
+      let t = c.in_ok-n.ensures in
+      omega (arith, t.1, converted-short f (shift_passed f t.0).0 c.requires, c.room-out.ensures)
 
 pub slice_bounds-out-end : goal.slice_bounds-out-end
-slice_bounds-out-end c = fits c
+slice_bounds-out-end c = fits (goal.at.slice_bounds-out-end c).After-room-out
 
 pub slice_bounds-convert-end : goal.slice_bounds-convert-end
-slice_bounds-convert-end c = sym (length-take-le (n (goal.at.slice_bounds-convert-end c).After-room-out) (zeros (goal.at.slice_bounds-convert-end c).After-room-out) (fits (goal.at.slice_bounds-convert-end c).After-room-out))
+slice_bounds-convert-end c = let r = (goal.at.slice_bounds-convert-end c).After-room-out in sym (length-take-le (n r) (zeros r) (fits r))
 
 -- the array is as long as before
 module _ (c : goal.After-convert) where
