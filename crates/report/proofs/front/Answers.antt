@@ -81,31 +81,30 @@ module _ (c : goal.In_ok-r) where
   abbrev s : List ℕ
   s = bytes (passed laid)
 
-  few : end_in s ≤ file_limit
-  few = omega (arith, size laid, c.if-p-gt-FILE_LIMIT.false)
-
-  passes : Passes (entry_checks s)
-  passes = records-answer s 0 (given (passed laid)).0 few c.in_ok-r.ensures.0
+  passes : end_in s ≤ file_limit → Passes (entry_checks s)
+  passes few = records-answer s 0 (given (passed laid)).0 few c.in_ok-r.ensures.0
 
   end : c.in_ok-r.r.end ≡ end_in s
   unfolding read_of
   end = ap (λ (x : Reading). x.end) c.in_ok-r.ensures.1
 
-  inside : c.in_ok-r.r.end ≤ length s
-  inside = omega (arith, end, entry_present s passes)
+  inside : end_in s ≤ file_limit → c.in_ok-r.r.end ≤ length s
+  inside few = omega (arith, end, entry_present s (passes few))
 
   file-is : take c.in_ok-r.r.end s ≡ file_in s
   file-is = ap (λ (n : ℕ). take n s) end
 
 pub slice_bounds-all_coins-end : goal.slice_bounds-all_coins-end
-slice_bounds-all_coins-end c = sym (length-take-le _ _ (inside c))
+slice_bounds-all_coins-end c = sym (length-take-le _ _ (inside c (omega (arith, size (laid c), c.if-p-gt-FILE_LIMIT.false))))
 
 pub all_coins-sweep-requires : goal.all_coins-sweep-requires
 all_coins-sweep-requires c =
+    let few : end_in (s c) ≤ file_limit = omega (arith, size (laid c), c.if-p-gt-FILE_LIMIT.false) in
     subst (λ (f : List ℕ). Rattle.coins.specs.Tally.Readable f c.in_ok-r.r × (length f ≤ file_limit)) (sym (file-is c))
-    (entry_readable (s c) (passes c) c.in_ok-r.r c.in_ok-r.ensures.1, omega (arith, file_length (s c) (passes c), entry_limit (s c) (passes c)))
+    (entry_readable (s c) (passes c few) c.in_ok-r.r c.in_ok-r.ensures.1, omega (arith, file_length (s c) (passes c few), entry_limit (s c) (passes c few)))
 
 pub returns : goal.returns
 returns c = let e = (goal.at.returns c).In_ok-r in
     let t = c.all_coins-sweep.result in
-    (passes e, (subst (λ (f : List ℕ). Swept f t.k t.coins t.rejects t.most) (file-is e) c.all_coins-sweep.ensures, end e))
+    let few : end_in (s e) ≤ file_limit = omega (arith, size (laid e), c.if-p-gt-FILE_LIMIT.false) in
+    (passes e few, (subst (λ (f : List ℕ). Swept f t.k t.coins t.rejects t.most) (file-is e) c.all_coins-sweep.ensures, end e))
