@@ -16,7 +16,7 @@ use Rattle.correction.specs.Rows.{Added}
 
 module _ (q c from to n : ℕ) (pos : 0 < q) (old : List ℕ) (apart : Apart n from to (length old)) (i : ℕ) (ts : List ℕ) (z : All IsZero ts) (fits : i + length ts ≤ n)
     (new : List ℕ) (s : Added q c from to i old new) where
-  row_apart : Apart (length ts) (from + i) (to + i) (length new)
+  pub row_apart : Apart (length ts) (from + i) (to + i) (length new)
   row_apart =
       record {
         first = omega (arith, s.kept, apart.first);

@@ -1,12 +1,12 @@
 // The bench cases of the checker, and the prover's pairs at k = 7 to 9 counted over all coins: a
-// line for each, held to the file stdout. Lent outputs and scratch come in as sevens.
+// line for each, held to the file stdout. Lent outputs and scratch come in as sevens. A line that can't
+// be written is let go.
 #![tactic(auto)]
 
 mod answers;
 mod short;
 
 use answers::{Checked, Made, is_accepted};
-use std::io;
 
 // The coins below the given number at which the pair is not accepted.
 fn unaccepted<'a>(
@@ -31,9 +31,9 @@ fn count<'a>(
     word: &'a [u16],
     proof: &'a [u16],
     coins: u64,
-) -> io::Result<()> {
+) {
     let n = unaccepted(modulus, basis, shift, word, proof, coins);
-    println!(rt; "{label}: rejecting coins {n}")
+    let _ = println!(rt; "{label}: rejecting coins {n}");
 }
 
 fn change(word: &mut [u16]) {
@@ -54,17 +54,17 @@ fn round(
     proof: &mut [u16],
     scratch: &mut [u16],
     coins: u64,
-) -> io::Result<()> {
-    println!(rt; "{label}")?;
-    println!(rt;
+) {
+    let _ = println!(rt; "{label}");
+    let _ = println!(rt;
         "  encoded: {}",
         Made(codec::encode(modulus, basis, shift, coefficients, word, scratch))
-    )?;
-    println!(rt;
+    );
+    let _ = println!(rt;
         "  proved: {}",
         Made(prover::prove(modulus, basis, shift, word, proof, scratch))
-    )?;
-    count(rt, "  pair", modulus, basis, shift, word, proof, coins)
+    );
+    count(rt, "  pair", modulus, basis, shift, word, proof, coins);
 }
 
 // All coins again, with one symbol of the word changed.
@@ -77,16 +77,16 @@ fn changed(
     proof: &mut [u16],
     scratch: &mut [u16],
     coins: u64,
-) -> io::Result<()> {
+) {
     change(word);
-    count(rt, "  changed", modulus, basis, shift, word, proof, coins)?;
-    println!(rt;
+    count(rt, "  changed", modulus, basis, shift, word, proof, coins);
+    let _ = println!(rt;
         "  proved again: {}",
         Made(prover::prove(modulus, basis, shift, word, proof, scratch))
-    )
+    );
 }
 
-fn round7(rt: &impl Print, label: &str, modulus: u32, basis: &[u16], shift: u16) -> io::Result<()> {
+fn round7(rt: &impl Print, label: &str, modulus: u32, basis: &[u16], shift: u16) {
     let mut word = [7u16; 128];
     let mut proof = [7u16; 896];
     let mut scratch = [7u16; 512];
@@ -101,7 +101,7 @@ fn round7(rt: &impl Print, label: &str, modulus: u32, basis: &[u16], shift: u16)
         &mut proof,
         &mut scratch,
         64,
-    )?;
+    );
     changed(
         rt,
         modulus,
@@ -111,10 +111,10 @@ fn round7(rt: &impl Print, label: &str, modulus: u32, basis: &[u16], shift: u16)
         &mut proof,
         &mut scratch,
         64,
-    )
+    );
 }
 
-fn round8(rt: &impl Print, label: &str, modulus: u32, basis: &[u16], shift: u16) -> io::Result<()> {
+fn round8(rt: &impl Print, label: &str, modulus: u32, basis: &[u16], shift: u16) {
     let mut word = [7u16; 256];
     let mut proof = [7u16; 16128];
     let mut scratch = [7u16; 1024];
@@ -129,7 +129,7 @@ fn round8(rt: &impl Print, label: &str, modulus: u32, basis: &[u16], shift: u16)
         &mut proof,
         &mut scratch,
         2048,
-    )?;
+    );
     changed(
         rt,
         modulus,
@@ -139,10 +139,12 @@ fn round8(rt: &impl Print, label: &str, modulus: u32, basis: &[u16], shift: u16)
         &mut proof,
         &mut scratch,
         2048,
-    )
+    );
 }
 
-fn round9(rt: &impl Print, label: &str, modulus: u32, basis: &[u16], shift: u16) -> io::Result<()> {
+// In a frame of its own, so that the other rounds do not stand on its arrays.
+#[inline(never)]
+fn round9(rt: &impl Print, label: &str, modulus: u32, basis: &[u16], shift: u16) {
     let mut word = [7u16; 512];
     let mut proof = [7u16; 32256];
     let mut scratch = [7u16; 2048];
@@ -157,7 +159,7 @@ fn round9(rt: &impl Print, label: &str, modulus: u32, basis: &[u16], shift: u16)
         &mut proof,
         &mut scratch,
         4096,
-    )?;
+    );
     changed(
         rt,
         modulus,
@@ -167,7 +169,7 @@ fn round9(rt: &impl Print, label: &str, modulus: u32, basis: &[u16], shift: u16)
         &mut proof,
         &mut scratch,
         4096,
-    )
+    );
 }
 
 // The setting of the zero pair: the first seven powers of 2 in the field of bytes.
@@ -176,109 +178,104 @@ fn seven<'a>(word: &'a [u16], proof: &'a [u16], coin: u64) -> Checked {
     Checked(verifier::check(283, &basis, 0, word, proof, coin))
 }
 
-fn count_seven<'a>(
-    rt: &impl Print,
-    label: &str,
-    word: &'a [u16],
-    proof: &'a [u16],
-) -> io::Result<()> {
+fn count_seven<'a>(rt: &impl Print, label: &str, word: &'a [u16], proof: &'a [u16]) {
     let basis = [1u16, 2, 4, 8, 16, 32, 64];
-    count(rt, label, 283, &basis, 0, word, proof, 64)
+    count(rt, label, 283, &basis, 0, word, proof, 64);
 }
 
 // The zero pair at k = 7, and one symbol of it changed.
-fn zero_pair(rt: &impl Print) -> io::Result<()> {
+fn zero_pair(rt: &impl Print) {
     let mut word = [0u16; 128];
     let mut proof = [0u16; 896];
-    count_seven(rt, "k 7, zeros", &word, &proof)?;
+    count_seven(rt, "k 7, zeros", &word, &proof);
     proof[0] = 1;
-    count_seven(rt, "k 7, proof position 0", &word, &proof)?;
+    count_seven(rt, "k 7, proof position 0", &word, &proof);
     proof[0] = 0;
     word[32] = 1;
-    count_seven(rt, "k 7, word position 32", &word, &proof)?;
-    println!(rt;
+    count_seven(rt, "k 7, word position 32", &word, &proof);
+    let _ = println!(rt;
         "k 7, word position 32, coin 8: {}",
         seven(&word, &proof, 8)
-    )?;
+    );
     word[32] = 0;
     proof[0] = 1;
-    println!(rt;
+    let _ = println!(rt;
         "k 7, proof position 0, coin 17: {}",
         seven(&word, &proof, 17)
-    )?;
+    );
     proof[0] = 0;
-    println!(rt; "k 7, coin 63: {}", seven(&word, &proof, 63))?;
-    println!(rt; "k 7, coin 64: {}", seven(&word, &proof, 64))
+    let _ = println!(rt; "k 7, coin 63: {}", seven(&word, &proof, 63));
+    let _ = println!(rt; "k 7, coin 64: {}", seven(&word, &proof, 64));
 }
 
 // The same word and proof in settings with a shift, and a shift that is no symbol.
-fn shifts(rt: &impl Print) -> io::Result<()> {
+fn shifts(rt: &impl Print) {
     let basis = [1u16, 2, 4, 8, 16, 32, 64];
     let word = [0u16; 128];
     let mut proof = [0u16; 896];
     let mut scratch = [7u16; 512];
-    println!(rt;
+    let _ = println!(rt;
         "k 7, shift 255, coin 63: {}",
         Checked(verifier::check(283, &basis, 255, &word, &proof, 63))
-    )?;
-    println!(rt;
+    );
+    let _ = println!(rt;
         "k 7, shift 256, coin 63: {}",
         Checked(verifier::check(283, &basis, 256, &word, &proof, 63))
-    )?;
-    println!(rt;
+    );
+    let _ = println!(rt;
         "k 7, shift 256, proved: {}",
         Made(prover::prove(283, &basis, 256, &word, &mut proof, &mut scratch))
-    )
+    );
 }
 
-fn rounds(rt: &impl Print) -> io::Result<()> {
-    round7(rt, "k 7, modulus 283", 283, &[1, 2, 4, 8, 16, 32, 64], 0)?;
-    round7(rt, "k 7, modulus 137", 137, &[64, 3, 17, 5, 9, 32, 1], 0)?;
+fn rounds(rt: &impl Print) {
+    round7(rt, "k 7, modulus 283", 283, &[1, 2, 4, 8, 16, 32, 64], 0);
+    round7(rt, "k 7, modulus 137", 137, &[64, 3, 17, 5, 9, 32, 1], 0);
     round8(
         rt,
         "k 8, modulus 283",
         283,
         &[1, 2, 4, 8, 16, 32, 64, 128],
         0,
-    )?;
+    );
     round8(
         rt,
         "k 8, modulus 65579",
         65579,
         &[3, 5, 9, 32768, 257, 64, 2, 1000],
         0,
-    )?;
+    );
     round9(
         rt,
         "k 9, modulus 65579",
         65579,
         &[1, 2, 4, 8, 16, 32, 64, 128, 256],
         0,
-    )
+    );
 }
 
-fn shifted_rounds(rt: &impl Print) -> io::Result<()> {
+fn shifted_rounds(rt: &impl Print) {
     round7(
         rt,
         "k 7, modulus 137, shift 100",
         137,
         &[64, 3, 17, 5, 9, 32, 1],
         100,
-    )?;
+    );
     round8(
         rt,
         "k 8, modulus 65579, shift 40000",
         65579,
         &[3, 5, 9, 32768, 257, 64, 2, 1000],
         40000,
-    )
+    );
 }
 
-fn main(rt: HostRuntime) -> io::Result<()> {
-    zero_pair(&rt)?;
-    short::only_coin(&rt)?;
-    short::words(&rt)?;
-    rounds(&rt)?;
-    shifts(&rt)?;
-    shifted_rounds(&rt)
+fn main(rt: HostRuntime) {
+    zero_pair(&rt);
+    short::only_coin(&rt);
+    short::words(&rt);
+    rounds(&rt);
+    shifts(&rt);
+    shifted_rounds(&rt);
 }

@@ -34,5 +34,5 @@ told_bounded s e (p, (t, g)) =
 pub countable : (s : List ℕ) (n : ℕ) (t : Total) → Fair n t → n < most_files → (r : Result Entry Refusal) → Told s r → Countable t r
 countable s n t f h (Ok e) x =
     let b = told_bounded s e x in
-    (omega (arith, f.files), omega (arith, f.coins, b.coins), omega (arith, f.rejects, b.rejects))
-countable s n t f h (Err d) x = tt
+    (omega (arith, f.files), omega (arith, f.coins), omega (arith, f.rejects), (omega (arith, b.coins), omega (arith, b.rejects)))
+countable s n t f h (Err d) x = (omega (arith, f.files), omega (arith, f.coins), omega (arith, f.rejects), tt)

@@ -19,7 +19,7 @@ abbrev pub with_entry : Total → Result Entry Refusal → Total
 with_entry t (Ok e) = record { files = t.files + 1; coins = t.coins + e.sweep.coins; rejects = t.rejects + e.sweep.rejects }
 with_entry t (Err r) = t
 
--- its sums fit
+-- each sum of two of these numbers fits
 abbrev pub Countable : Total → Result Entry Refusal → Type 0
 Countable t file =
-    MatchResult file (λ e. (t.files + 1 < 2 ^ 64) × (t.coins + e.sweep.coins < 2 ^ 64) × (t.rejects + e.sweep.rejects < 2 ^ 64)) (λ r. Unit {0})
+    (t.files < 2 ^ 63) × (t.coins < 2 ^ 63) × (t.rejects < 2 ^ 63) × MatchResult file (λ e. (e.sweep.coins < 2 ^ 63) × (e.sweep.rejects < 2 ^ 63)) (λ r. Unit {0})

@@ -30,7 +30,7 @@ module _ (q c : ℕ) (ts : List ℕ) (k : ℕ) (old : List ℕ) (lx : length old
     inside : j * s + s ≤ k * s
     inside = part-fits {i = j} {n = k} s h
 
-    turn-apart : Apart s (half + p) p (length v)
+    pub turn-apart : Apart s (half + p) p (length v)
     turn-apart =
         record {
           first = omega (arith, two_halves, sv.kept, inside);

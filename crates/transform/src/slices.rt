@@ -9,7 +9,9 @@ pub fn copy(src: &[u16], dst: &mut [u16])
     requires { length src.now ≤ length dst.old }
     ensures { dst.new ≡ src.now ++ drop (length src.now) dst.old }
 {
-    dst[..src.len()].copy_from_slice(src);
+    for (i, x) in src.iter().enumerate() {
+        dst[i] = *x;
+    }
 }
 
 // Copies the first n numbers after themselves.
@@ -17,7 +19,9 @@ pub fn copy_up(n: usize, values: &mut [u16])
     requires { n + n ≤ length values.old }
     ensures { values.new ≡ take n values.old ++ (take n values.old ++ drop (n + n) values.old) }
 {
-    values.copy_within(..n, n);
+    for i in 0..n {
+        values[n + i] = values[i];
+    }
 }
 
 // Sets all of values to 0.
